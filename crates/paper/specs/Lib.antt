@@ -1,0 +1,9 @@
+pub mod Bytes
+pub mod Fields
+pub mod Layouts
+pub mod Pack
+pub mod Walk
+pub mod Conditions
+pub mod Judge
+pub mod File
+pub mod Answer
