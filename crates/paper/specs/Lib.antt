@@ -7,3 +7,5 @@ pub mod Conditions
 pub mod Judge
 pub mod File
 pub mod Answer
+pub mod Examples
+pub mod Samples
