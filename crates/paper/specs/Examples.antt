@@ -100,7 +100,7 @@ wordTable =
     ∷ []
 
 pub words : agree wordTable ≡ true
-unfolding significant number spaced name street city zip zerosThenBlanks hhmm validDate dayOfYear lastDay leapYear monthLengths notAbove noNumber wrongAnd wrongYear runs oneOf notPin notPositive late pick
+unfolding significant number spaced name street city zip hhmm validDate dayOfYear lastDay leapYear monthLengths notAbove noNumber wrongAnd wrongYear runs oneOf notPin notPositive late pick
 words = refl
 
 -- a pack with these lines

@@ -24,9 +24,9 @@ use Rattle.paper.specs.Conditions.{Sight, View, factsOf, factsWith, noFa
 abbrev pub known : Doc → Bool
 known d = is Form (kindOf (d .main))
 
--- the records that are judged: of an unknown form only the first
-abbrev pub judgedOnes : Doc → List Bytes
-judgedOnes d = d .main ∷ cond (known d) (d .others) []
+-- the records beside the first that are judged: of an unknown form none
+abbrev pub attached : Doc → List Bytes
+attached d = cond (known d) (d .others) []
 
 -- a record, and the bank line of a payment's 0030, [] for none
 pub record Item : Type 0 where
@@ -61,7 +61,7 @@ caseOf L d = record {
   spouse = firstOr (L taxpayers (spouseOf d));
   done = firstOr (L filed (ssnOf d));
   zips = L states (stateOf d);
-  items = map (itemOf L) (judgedOnes d);
+  items = record { bytes = d .main; bank = [] } ∷ map (itemOf L) (attached d);
 }
 
 -- of an unknown form the pack is not asked
