@@ -1,5 +1,6 @@
 pub mod Laws
 pub mod Flow
+pub mod Pick
 pub mod SameFile
 pub mod Parts
 pub mod OtherSets

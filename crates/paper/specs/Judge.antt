@@ -12,11 +12,11 @@ use Rattle.paper.specs.declared.Kind.the-variants.{Form, Unknown, Paymen
 use Rattle.paper.specs.declared.Letter.{Letter}
 use Rattle.paper.specs.declared.Letter.the-variants.{A, R, D}
 use Rattle.paper.specs.declared.Layout.the-variants.{L4868, LPayment}
-use Rattle.paper.specs.Bytes.{Bytes, those, empty, joined, member, digits, firstOr}
+use Rattle.paper.specs.Bytes.{Bytes, bit, those, empty, joined, member, digits, firstOr}
 use Rattle.paper.specs.Layouts.{field}
 use Rattle.paper.specs.Pack.{Lines, taxpayers, banks, filed, states, sentBefore}
 use Rattle.paper.specs.Walk.{Doc, Parsed, is, kindOf, parse, twelve}
-use Rattle.paper.specs.Conditions.{Sight, View, factsOf, factsWith, noFacts, holds, rulesOf}
+use Rattle.paper.specs.Conditions.{Sight, View, sight, view, ofKind, factsOf, holds, rulesOf}
 
 -- ALL THAT THE PACK SAYS OF A DOCUMENT, looked up once by the keys as read
 
@@ -137,36 +137,28 @@ pub record Turn : Type 0 where
   pub date : Bytes
 
 abbrev pub sightOf : Turn → Sight
-sightOf t = record {
-  form = t .subject .doc .main;
-  payer = t .subject .payer;
-  spouse = t .subject .spouse;
-  zips = t .subject .zips;
-  dsn = t .past .dsn;
-  dcn = t .past .dcn;
-  date = t .date;
-  whole = factsOf (t .subject .doc .main ∷ t .subject .doc .others);
-}
+sightOf t =
+    sight (t .subject .doc .main) (t .subject .payer) (t .subject .spouse) (t .subject .zips) (t .past .dsn) (t .past .dcn) (t .date)
+    (factsOf (t .subject .doc .main ∷ t .subject .doc .others))
 
 -- a finding: where its record starts in the document, the record's kind, and the rule
 abbrev pub mark : Kind → ℕ → ℕ → Found
 mark k place rule = record { place = place; kind = k; rule = rule }
 
--- the rules of a record of kind k that hold
-abbrev pub findsIn : Kind → View → List Found
-findsIn k v = map (mark k (v .past .size)) (those (holds k v) (rulesOf k))
+-- the rules that hold of a record of kind k at a place
+abbrev pub findsIn : Kind → ℕ → View → List Found
+findsIn k place v = map (mark k place) (those (holds k v) (rulesOf k))
 
-abbrev pub findsOf : Sight → Facts → Item → List Found
-findsOf s past i = findsIn (kindOf (i .bytes)) (record { sight = s; own = i .bytes; bank = i .bank; past = past })
-
--- past is the facts of the records before
-abbrev pub findsFrom : Sight → Facts → List Item → List Found
-findsFrom s past [] = []
-findsFrom s past (i ∷ is) = findsOf s past i ++ findsFrom s (factsWith past (i .bytes)) is
+-- from the place on; so many payments and authentications stand before
+abbrev pub findsFrom : Sight → ℕ → ℕ → ℕ → List Item → List Found
+findsFrom s place pays aths [] = []
+findsFrom s place pays aths (i ∷ is) =
+    findsIn (kindOf (i .bytes)) place (view s (i .bytes) (i .bank) pays aths)
+    ++ findsFrom s (place + length (i .bytes)) (pays + bit (ofKind Payment (i .bytes))) (aths + bit (ofKind Auth (i .bytes))) is
 
 -- by record in file order, then field, then code
 unfoldable pub findings : Turn → List Found
-findings t = findsFrom (sightOf t) noFacts (t .subject .items)
+findings t = findsFrom (sightOf t) 0 0 0 (t .subject .items)
 
 -- "R if any finding; else D if 0090 is in block 3 or an earlier document here with that SSN got A; else A"
 abbrev pub letterBy : Bool → Bool → Letter

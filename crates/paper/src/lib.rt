@@ -84,6 +84,14 @@ pub enum Letter {
     D,
 }
 
+// What is said of a document: its letter, whether its form is known, its findings and its facts.
+pub struct Judgment {
+    pub letter: Letter,
+    pub known: bool,
+    pub found: Findings,
+    pub facts: Facts,
+}
+
 // Which codes reject the whole.
 pub enum Codes {
     C0823,
