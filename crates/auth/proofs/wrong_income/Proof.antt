@@ -1,0 +1,17 @@
+use Rattle.paper.specs.Conditions.{wrongIncome}
+use borrow.Author.Needs.{needs}
+use Rattle.auth.proofs.wrong_income.Statement.{statement}
+use Rattle.auth.proofs.wrong_income.Tie as tie
+
+pub wrong-income-spec : {M : Type 1} → statement M
+unfolding wrongIncome
+wrong-income-spec =
+    tie.close
+    (tie.spec
+    (λ c κs. search needs)
+    (λ c κs. search needs)
+    (λ c κs. search needs)
+    (λ c κs. search needs)
+    (λ c κs. search needs)
+    (λ c κs. search needs)
+    (λ c. cc))

@@ -1,0 +1,16 @@
+use Rattle.paper.specs.Fields.{lastDay}
+use borrow.Author.Needs.{needs}
+use Rattle.date.proofs.last_day.Statement.{statement}
+use Rattle.date.proofs.last_day.Tie as tie
+
+pub last-day-spec : {M : Type 1} → statement M
+unfolding lastDay
+last-day-spec =
+    tie.close
+    (tie.spec
+    (λ c κs. search needs)
+    (λ c. rw (← c .before .leap-year .ensures, c .if1 .taken))
+    (λ c. search needs)
+    (λ c. search needs)
+    (λ c κs. search needs)
+    (λ c. rw (← c .before .before .leap-year .ensures, c .before .if1 .left) (c .month-length .ensures)))

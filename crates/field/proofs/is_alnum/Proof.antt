@@ -1,0 +1,11 @@
+use borrow.Author.Needs.{needs}
+use Rattle.field.proofs.is_alnum.Statement.{statement}
+use Rattle.field.proofs.is_alnum.Tie as tie
+
+pub is-alnum-spec : {M : Type 1} → statement M
+is-alnum-spec =
+    tie.close
+    (tie.spec
+    (λ c κs. search needs)
+    (λ c κs. search needs)
+    (λ c. cc))

@@ -1,0 +1,14 @@
+use Rattle.paper.specs.Conditions.{wrongCity}
+use borrow.Author.Needs.{needs}
+use Rattle.form.proofs.wrong_city.Statement.{statement}
+use Rattle.form.proofs.wrong_city.Tie as tie
+
+pub wrong-city-spec : {M : Type 1} → statement M
+unfolding wrongCity
+wrong-city-spec =
+    tie.close
+    (tie.spec
+    (λ c κs. search needs)
+    (λ c κs. search needs)
+    (λ c κs. search needs)
+    (λ c. cc))

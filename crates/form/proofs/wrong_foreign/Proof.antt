@@ -1,0 +1,26 @@
+use Rattle.paper.specs.Conditions.{wrongForeign}
+use borrow.Author.Needs.{needs}
+use Rattle.form.proofs.wrong_foreign.Statement.{statement}
+use Rattle.form.proofs.wrong_foreign.Tie as tie
+
+pub wrong-foreign-spec : {M : Type 1} → statement M
+unfolding wrongForeign
+wrong-foreign-spec =
+    tie.close
+    (tie.spec
+    (λ c κs. search needs)
+    (λ c κs. search needs)
+    (λ c κs. search needs)
+    (λ c κs. search needs)
+    (λ c κs. search needs)
+    (λ c κs. search needs)
+    (λ c κs. search needs)
+    (λ c κs. search needs)
+    (λ c κs. search needs)
+    (λ c κs. search needs)
+    (λ c κs. search needs)
+    (λ c κs. search needs)
+    (λ c κs. search needs)
+    (λ c κs. search needs)
+    (λ c κs. search needs)
+    (λ c. cc))

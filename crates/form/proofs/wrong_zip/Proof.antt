@@ -1,0 +1,14 @@
+use Rattle.paper.specs.Conditions.{wrongZip}
+use borrow.Author.Needs.{needs}
+use Rattle.form.proofs.wrong_zip.Statement.{statement}
+use Rattle.form.proofs.wrong_zip.Tie as tie
+
+pub wrong-zip-spec : {M : Type 1} → statement M
+unfolding wrongZip
+wrong-zip-spec =
+    tie.close
+    (tie.spec
+    (λ c κs. search needs)
+    (λ c κs. search needs)
+    (λ c κs. search needs)
+    (λ c. cc))

@@ -1,0 +1,18 @@
+use borrow.Author.Needs.{needs}
+use Rattle.paper.specs.Pack.{stateLine}
+use Rattle.lines.proofs.state_line.Statement.{statement}
+use Rattle.lines.proofs.state_line.Tie as tie
+
+pub state-line-spec : {M : Type 1} → statement M
+unfolding stateLine
+state-line-spec =
+    tie.close
+    (tie.spec
+    (λ c κs. search needs)
+    (λ c κs. search needs)
+    (λ c κs. search needs)
+    (λ c κs. search needs)
+    (λ c κs. search needs)
+    (λ c κs. search needs)
+    (λ c κs. search needs)
+    (λ c. cc))

@@ -1,0 +1,28 @@
+use Rattle.paper.specs.Conditions.{payment0010, pick}
+use mathlib.Core.Path.{refl}
+use Rattle.paper.proofs.Pick.{past}
+use borrow.Author.Needs.{needs}
+use Rattle.payment.proofs.holds_0010.Statement.{statement}
+use Rattle.payment.proofs.holds_0010.Tie as tie
+
+pub holds-0010-spec : {M : Type 1} → statement M
+unfolding payment0010 pick
+holds-0010-spec =
+    tie.close
+    (tie.spec
+    (λ c κs. search needs)
+    (λ c κs. search needs)
+    (λ c κs. search needs)
+    (λ c κs. search needs)
+    (λ c κs. search needs)
+    (λ c κs. search needs)
+    (λ c κs. search needs)
+    (λ c κs. search needs)
+    (λ c κs. search needs)
+    (λ c κs. search needs)
+    (λ c. rw (c .before .before .match .keys1, c .digits .ensures, c .before .field-of .ensures))
+    (λ c. rw (c .before .before .match .keys2, c .not-digits .ensures, c .before .field-of2 .ensures))
+    (λ c. rw (c .before .before .match .keys3, c .not-positive .ensures, c .before .field-of3 .ensures))
+    (λ c. rw (c .before .before .match .keys4, c .tax-type .ensures, c .before .field-of4 .ensures))
+    (λ c. rw (c .before .before .match .keys5, c .not-digits2 .ensures, c .before .field-of5 .ensures))
+    (λ c. past _ (c .match .rest .0 .0 .0 .0 .1) (past _ (c .match .rest .0 .0 .0 .1) (past _ (c .match .rest .0 .0 .1) (past _ (c .match .rest .0 .1) (past _ (c .match .rest .1) (refl)))))))

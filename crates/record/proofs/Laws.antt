@@ -1,0 +1,74 @@
+-- The loop that lays a text into a record, texts laid one after the other, and the length of the records. Assumes nothing.
+use mathlib.Core.Path.{_≡_, refl, sym, ap, _∙_}
+use mathlib.Core.List.{List, [], _∷_}
+use Prim.Native.Nat.{ℕ, zero, suc, _+_, _<_, _≤_}
+use native.Mathlib.Numerals.{add-one}
+use lib.ListN.{length, getD, set, drop}
+use lib.Seq.{sets, length-sets}
+use native.Mathlib.Omega.{arith}
+use Rattle.paper.proofs.Laws.{next, ended}
+use Rattle.paper.specs.declared.Layout.{Layout}
+use Rattle.paper.specs.declared.Verdict.{Verdict}
+use Rattle.paper.specs.Bytes.{Bytes}
+use Rattle.paper.specs.Layouts.{entry}
+use Rattle.paper.specs.File.{laid, fields, recordOf, keyRecord, errorRecord, recapRecord}
+
+-- a byte past the last is not stored
+set-past : (r : List ℕ) (k x : ℕ) → length r ≤ k → set r k x ≡ r
+set-past [] k x h = refl
+set-past (y ∷ r) zero x h = absurd (omega arith)
+set-past (y ∷ r) (suc k) x h = ap (λ (s : List ℕ). y ∷ s) (set-past r k x (omega arith))
+
+sets-past : (t r : List ℕ) (k : ℕ) → length r ≤ k → sets r k t ≡ r
+sets-past [] r k h = refl
+sets-past (x ∷ t) r k h =
+    ap (λ (q : List ℕ). sets q (suc k) t) (set-past r k x h) ∙ sets-past t r (suc k) (omega arith)
+
+-- The answers of the loop that lays the text t from its byte j on, at byte k of r; e is the record to be
+pub lay-again : (t r e : List ℕ) (k j : ℕ) → laid r k (drop j t) ≡ e → j < length t → laid (set r k (getD t j 0)) (k + 1) (drop (j + 1) t) ≡ e
+unfolding laid
+lay-again t r e k j v h = ap (λ (n : ℕ). sets (set r k (getD t j 0)) n (drop (j + 1) t)) (add-one k) ∙ ap (sets r k) (sym (next t j h)) ∙ v
+
+pub lay-past : (t r e : List ℕ) (k j n : ℕ) → laid r k (drop j t) ≡ e → length r ≡ n → n ≤ k → r ≡ e
+unfolding laid
+lay-past t r e k j n v l h = sym (sets-past (drop j t) r k (omega arith)) ∙ v
+
+pub lay-end : (t r e : List ℕ) (k j : ℕ) → laid r k (drop j t) ≡ e → length t ≤ j → r ≡ e
+unfolding laid
+lay-end t r e k j v h = sym (ap (sets r k) (ended t j h)) ∙ v
+
+pub ruleset laying = (lay-again, lay-past, lay-end)
+
+-- one text more, laid into what the calls before it made; for functions that lay one text after the other
+pub onto : (q r e t : List ℕ) (k : ℕ) → q ≡ laid r k t → r ≡ e → q ≡ laid e k t
+onto q r e t k v w = v ∙ ap (λ (s : List ℕ). laid s k t) w
+
+pub ruleset one-by-one = onto
+
+-- EVERY RECORD HAS 120 BYTES
+
+pub length-laid : (r : List ℕ) (at : ℕ) (t : List ℕ) → length (laid r at t) ≡ length r
+unfolding laid
+length-laid r at t = length-sets r at t
+
+length-fields : (l : Layout) (r : Bytes) (fs : List (ℕ × Bytes)) → length (fields l r fs) ≡ length r
+length-fields l r [] = refl
+length-fields l r (f ∷ fs) =
+    length-fields l (laid r (entry l (f .0) .start) (f .1)) fs ∙ length-laid r (entry l (f .0) .start) (f .1)
+
+length-recordOf : (l : Layout) (fs : List (ℕ × Bytes)) → length (recordOf l fs) ≡ 120
+unfolding recordOf
+length-recordOf l fs = simp (length-laid, length-fields)
+
+pub length-key : (ssn sequence : Bytes) (v : Verdict) (pin : ℕ) (date control : Bytes) (errors : ℕ) (literal : Bytes)
+    → length (keyRecord ssn sequence v pin date control errors literal) ≡ 120
+unfolding keyRecord
+length-key ssn sequence v pin date control errors literal = length-recordOf _ _
+
+pub length-error : (ssn : Bytes) (n : ℕ) (id type page occurrence : Bytes) (rule : ℕ) → length (errorRecord ssn n id type page occurrence rule) ≡ 120
+unfolding errorRecord
+length-error ssn n id type page occurrence rule = length-recordOf _ _
+
+pub length-recap : (recap digits12 : Bytes) (accepted all : ℕ) (name : Bytes) → length (recapRecord recap digits12 accepted all name) ≡ 120
+unfolding recapRecord
+length-recap recap digits12 accepted all name = length-recordOf _ _

@@ -1,0 +1,63 @@
+-- A record set is its Key and its Error records, and its length; what is left of a document from a place on. Assumes nothing.
+use mathlib.Core.Path.{_≡_, refl, sym, ap, _∙_}
+use Prim.Native.Nat.{ℕ, _+_, _-_, _*_, _≤_}
+use mathlib.Core.Bool.{Bool, cond, _&&_}
+use mathlib.Core.List.{List, [], _∷_, _++_}
+use lib.ListN.{length, take, drop, length-append, length-drop}
+use lib.Seq.{take-all}
+use native.Mathlib.Omega.{arith}
+use Rattle.paper.proofs.Laws.{ended}
+use Rattle.paper.specs.declared.Facts.{Facts}
+use Rattle.paper.specs.declared.Found.{Found}
+use Rattle.paper.specs.declared.Letter.{Letter}
+use Rattle.paper.specs.declared.Layout.the-variants.{L4868}
+use Rattle.paper.specs.Bytes.{Bytes, digits, zeros}
+use Rattle.paper.specs.Layouts.{field}
+use Rattle.paper.specs.File.{orZeros, errorOf, errorsFrom, setBy}
+use Rattle.record.proofs.Laws.{length-key, length-error}
+use Rattle.recordset.specs.Key.{keyOf}
+
+pub set-parts : (main doc : Bytes) (known : Bool) (date : Bytes) (l : Letter) (f : Facts) (found : List Found) (athFound : Bool)
+    → setBy main doc known date l f found athFound
+    ≡ keyOf main known date l f (length found) athFound ++ errorsFrom (orZeros known 9 (field L4868 90 main)) doc 1 found
+unfolding setBy keyOf
+set-parts main doc known date l f found athFound = refl
+
+-- what `shown` ensures, with that many zeros
+pub shown-zeros : (known : Bool) (n : ℕ) (f : Bytes) → cond (known && digits f) f (zeros n) ≡ orZeros known n f
+unfolding orZeros
+shown-zeros known n f = refl
+
+pub length-keyOf : (main : Bytes) (known : Bool) (date : Bytes) (l : Letter) (f : Facts) (errors : ℕ) (athFound : Bool)
+    → length (keyOf main known date l f errors athFound) ≡ 120
+unfolding keyOf
+length-keyOf main known date l f errors athFound = length-key _ _ _ _ _ _ _ _
+
+pub length-errorOf : (ssn doc : Bytes) (n : ℕ) (x : Found) → length (errorOf ssn doc n x) ≡ 120
+unfolding errorOf
+length-errorOf ssn doc n x = length-error _ _ _ _ _ _ _
+
+pub length-errorsFrom : (ssn doc : Bytes) (n : ℕ) (xs : List Found) → length (errorsFrom ssn doc n xs) ≡ 120 * length xs
+length-errorsFrom ssn doc n [] = refl
+length-errorsFrom ssn doc n (x ∷ xs) =
+    length-append (errorOf ssn doc n x) (errorsFrom ssn doc (n + 1) xs)
+    ∙ omega (arith, length-errorOf ssn doc n x, length-errorsFrom ssn doc (n + 1) xs)
+
+-- 120 bytes for the Key and for each finding
+pub length-setBy : (main doc : Bytes) (known : Bool) (date : Bytes) (l : Letter) (f : Facts) (found : List Found) (athFound : Bool)
+    → length (setBy main doc known date l f found athFound) ≡ 120 + 120 * length found
+length-setBy main doc known date l f found athFound =
+    ap length (set-parts main doc known date l f found athFound)
+    ∙ length-append (keyOf main known date l f (length found) athFound) (errorsFrom (orZeros known 9 (field L4868 90 main)) doc 1 found)
+    ∙ omega
+    (arith, length-keyOf main known date l f (length found) athFound, length-errorsFrom (orZeros known 9 (field L4868 90 main)) doc 1 found)
+
+-- WHAT IS LEFT OF A DOCUMENT FROM A PLACE ON
+
+pub rest-at : (s : List ℕ) (k : ℕ) → take (length s - k) (drop k s) ≡ drop k s
+rest-at s k = take-all (length s - k) (drop k s) (simp length-drop (omega arith))
+
+pub rest-past : (s : List ℕ) (k : ℕ) → length s ≤ k → take (length s - length s) (drop (length s) s) ≡ drop k s
+rest-past s k h = rest-at s (length s) ∙ ended s (length s) (omega arith) ∙ sym (ended s k h)
+
+pub ruleset rest = (rest-at, rest-past)

@@ -1,0 +1,159 @@
+// A document's record set: its ACK Key, and its ACK Error records.
+use paper::Facts;
+use paper::Found;
+use paper::Kind;
+use paper::Layout;
+use paper::Letter;
+use paper::Verdict;
+ghost use mathlib.Core.Path.{_≡_};
+ghost use mathlib.Core.Bool.{cond, _&&_, _||_};
+ghost use lib.Dec.{ltb};
+ghost use lib.ListN.{drop};
+ghost use Rattle.paper.specs.Bytes.{digits};
+ghost use Rattle.paper.specs.Layouts.{field};
+ghost use Rattle.paper.specs.Walk.{is, kindNumber};
+ghost use Rattle.paper.specs.Judge.{isA};
+ghost use Rattle.paper.specs.File.{pinByte, errorOf};
+ghost use Rattle.recordset.specs.Key.{keyOf};
+
+fn is_a(letter: Letter) -> bool
+    ensures { λ r. ⌜ r ≡ isA letter ⌝ }
+{
+    match letter {
+        Letter::A => true,
+        Letter::R => false,
+        Letter::D => false,
+    }
+}
+
+fn number_of(kind: Kind) -> u8
+    ensures { λ r. ⌜ r ≡ kindNumber kind ⌝ }
+{
+    match kind {
+        Kind::TranA => 0,
+        Kind::TranB => 1,
+        Kind::Form => 2,
+        Kind::Unknown => 3,
+        Kind::Payment => 4,
+        Kind::Auth => 5,
+        Kind::Summary => 6,
+        Kind::Recap => 7,
+        Kind::Stray => 8,
+    }
+}
+
+fn is_summary(kind: Kind) -> bool
+    ensures { λ r. ⌜ r ≡ is Kind.Summary kind ⌝ }
+{
+    6 == number_of(kind)
+}
+
+fn is_payment_or_auth(kind: Kind) -> bool
+    ensures { λ r. ⌜ r ≡ (is Kind.Payment kind || is Kind.Auth kind) ⌝ }
+{
+    let number = number_of(kind);
+    (4 == number) | (5 == number)
+}
+
+// The one text or the other.
+fn pick<'a>(first: bool, a: &'a [u8], b: &'a [u8]) -> &'a [u8]
+    ensures { λ r. ⌜ now r ≡ cond first (now (a .entry)) (now (b .entry)) ⌝ }
+{
+    if first { a } else { b }
+}
+
+fn pin_byte(known: bool, ath_found: bool, facts: Facts) -> u8
+    ensures { λ r. ⌜ r ≡ pinByte known «ath_found» facts ⌝ }
+{
+    if !known | (facts.aths == 0) {
+        return b'0';
+    }
+    if ath_found {
+        return b' ';
+    }
+    let pin = facts.pin;
+    if pin == b'P' {
+        return b'1';
+    }
+    if pin == b'S' {
+        return b'2';
+    }
+    if pin == b'O' { b'3' } else { b' ' }
+}
+
+// A field of the opening record if the form is known and the field is digits, else the zeros.
+pub fn shown<'a>(known: bool, main: &'a [u8], number: u32, zeros: &'a [u8]) -> &'a [u8]
+    ensures { λ r. ⌜ now r ≡ cond (known && digits (field Layout.L4868 number (now (main .entry)))) (field Layout.L4868 number (now (main .entry))) (now (zeros .entry)) ⌝ }
+{
+    let f = layout::field_of(Layout::L4868, number, main);
+    pick(known & text::digits(f), f, zeros)
+}
+
+// The text for a document that is accepted, else the other.
+fn if_accepted<'a>(letter: Letter, text: &'a [u8], other: &'a [u8]) -> &'a [u8]
+    ensures { λ r. ⌜ now r ≡ cond (isA letter) (now (text .entry)) (now (other .entry)) ⌝ }
+{
+    pick(is_a(letter), text, other)
+}
+
+// The text for a document that is accepted with a payment, else the other.
+fn if_paid<'a>(letter: Letter, facts: Facts, text: &'a [u8], other: &'a [u8]) -> &'a [u8]
+    ensures { λ r. ⌜ now r ≡ cond (isA letter && ltb 0 (facts .pays)) (now (text .entry)) (now (other .entry)) ⌝ }
+{
+    pick(is_a(letter) & (0 < facts.pays), text, other)
+}
+
+// The ACK Key of a document.
+pub fn set_key(
+    main: &[u8],
+    known: bool,
+    date: &[u8],
+    letter: Letter,
+    facts: Facts,
+    errors: u32,
+    ath_found: bool,
+) -> [u8; 120]
+    ensures { λ q. ⌜ q ≡ keyOf (now (main .entry)) known (now (date .entry)) letter facts errors «ath_found» ⌝ }
+{
+    let ssn = shown(known, main, 90, b"000000000");
+    let sequence = shown(known, main, 7, b"0000000000000000");
+    let control = shown(known, main, 8, b"00000000000000");
+    let pin = pin_byte(known, ath_found, facts);
+    let day = if_accepted(letter, date, b"00000000");
+    let literal = if_paid(letter, facts, b"PYMNT RQST RECD", b"               ");
+    let v = Verdict::Judged(letter);
+    record::key_record(ssn, sequence, v, pin, day, control, errors, literal)
+}
+
+fn from(doc: &[u8], place: usize) -> &[u8]
+    ensures { λ r. ⌜ now r ≡ drop place (now (doc .entry)) ⌝ }
+{
+    let n = doc.len();
+    if n <= place { &doc[n..] } else { &doc[place..] }
+}
+
+fn type_at<'a>(kind: Kind, r: &'a [u8], blanks: &'a [u8]) -> &'a [u8]
+    ensures { λ t. ⌜ now t ≡ cond (is Kind.Summary kind) (now (blanks .entry)) (field Layout.L4868 1 (now (r .entry))) ⌝ }
+{
+    let form = layout::field_of(Layout::L4868, 1, r);
+    pick(is_summary(kind), blanks, form)
+}
+
+fn occurrence_at<'a>(kind: Kind, r: &'a [u8], first: &'a [u8]) -> &'a [u8]
+    ensures { λ t. ⌜ now t ≡ cond ((is Kind.Payment kind || is Kind.Auth kind) && digits (field Layout.LPayment 5 (now (r .entry)))) (field Layout.LPayment 5 (now (r .entry))) (now (first .entry)) ⌝ }
+{
+    let f = layout::field_of(Layout::LPayment, 5, r);
+    pick(is_payment_or_auth(kind) & text::digits(f), f, first)
+}
+
+// The n-th ACK Error record of a document, for a finding.
+pub fn error_of(ssn: &[u8], doc: &[u8], n: u32, x: Found) -> [u8; 120]
+    ensures { λ q. ⌜ q ≡ errorOf (now (ssn .entry)) (now (doc .entry)) n x ⌝ }
+{
+    let r = from(doc, x.place);
+    let kind = x.kind;
+    let id = layout::field_of(Layout::L4868, 0, r);
+    let form = type_at(kind, r, b"      ");
+    let occurrence = occurrence_at(kind, r, b"0000001");
+    record::error_record(ssn, n, id, form, b"00001", occurrence, x.rule)
+}

@@ -1,0 +1,13 @@
+use Rattle.paper.specs.Conditions.{notTime}
+use borrow.Author.Needs.{needs}
+use Rattle.summary.proofs.not_time.Statement.{statement}
+use Rattle.summary.proofs.not_time.Tie as tie
+
+pub not-time-spec : {M : Type 1} → statement M
+unfolding notTime
+not-time-spec =
+    tie.close
+    (tie.spec
+    (λ c κs. search needs)
+    (λ c κs. search needs)
+    (λ c. cc))

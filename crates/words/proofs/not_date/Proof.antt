@@ -1,0 +1,13 @@
+use Rattle.paper.specs.Conditions.{notDate}
+use borrow.Author.Needs.{needs}
+use Rattle.words.proofs.not_date.Statement.{statement}
+use Rattle.words.proofs.not_date.Tie as tie
+
+pub not-date-spec : {M : Type 1} → statement M
+unfolding notDate
+not-date-spec =
+    tie.close
+    (tie.spec
+    (λ c κs. search needs)
+    (λ c κs. search needs)
+    (λ c. cc))

@@ -1,0 +1,13 @@
+use Rattle.paper.specs.Conditions.{notPin}
+use borrow.Author.Needs.{needs}
+use Rattle.words.proofs.not_pin.Statement.{statement}
+use Rattle.words.proofs.not_pin.Tie as tie
+
+pub not-pin-spec : {M : Type 1} → statement M
+unfolding notPin
+not-pin-spec =
+    tie.close
+    (tie.spec
+    (λ c κs. search needs)
+    (λ c κs. search needs)
+    (λ c. cc))
