@@ -9,13 +9,12 @@ use lib.Dec.{eqb, leb}
 use lib.ListN.{length, getD, drop, drop-of-length-le}
 use lib.Seq.{drop-cons}
 use borrow.Author.Tests.{eq-eqb, ne-eqb, leb-true}
-use Rattle.paper.specs.declared.Field.{Field}
 use Rattle.paper.specs.declared.Layout.{Layout}
 use Rattle.paper.specs.declared.Layout.the-variants.{LTrana, LTranb, L4868, LPayment, LAuth, LSummary, LRecap, LKey, LError, LAckRecap}
 use Rattle.layout.specs.Rows.{rowOf, noRow, rows, rowIn}
 use Rattle.layout.specs.declared.tables.Row.{Row}
 use Rattle.paper.specs.Bytes.{every}
-use Rattle.paper.specs.Layouts.{trana, tranb, form4868, payment, authentication, summary, recap, ackKey, ackError, ackRecap, tableOf, entryIn, entry}
+use Rattle.paper.specs.Layouts.{Field, trana, tranb, form4868, payment, authentication, summary, recap, ackKey, ackError, ackRecap, tableOf, entryIn, entry}
 
 -- the row that is found is the entry's
 pub found-row : (n : ℕ) (fs : List Field) → rowIn n (rows fs) ≡ rowOf (entryIn n fs)

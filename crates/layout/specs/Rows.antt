@@ -3,7 +3,7 @@ use Prim.Native.Nat.{ℕ}
 use mathlib.Core.Bool.{cond}
 use mathlib.Core.List.{List, [], _∷_, map}
 use lib.Dec.{eqb}
-use Rattle.paper.specs.declared.Field.{Field}
+use Rattle.paper.specs.Layouts.{Field}
 use Rattle.layout.specs.declared.tables.Row.{Row}
 
 abbrev pub rowOf : Field → Row

@@ -1,12 +1,5 @@
 // The types that the layers pass to each other. What they mean stands in specs/.
 
-// Where a field of a record stands: its number, first byte and width.
-pub struct Field {
-    pub number: u32,
-    pub start: usize,
-    pub width: usize,
-}
-
 // The records that have a layout.
 pub enum Layout {
     LTrana,
