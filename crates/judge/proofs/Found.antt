@@ -1,16 +1,14 @@
 -- The findings of one record, and the loop over the records after the first. Assumes nothing.
 use mathlib.Core.Path.{_≡_, refl, sym, ap, _∙_, subst}
-use mathlib.Core.Bool.{Bool, true, false, not, cond, _&&_, _||_}
+use mathlib.Core.Bool.{Bool, true, false, not, cond}
 use mathlib.Core.List.{List, [], _∷_, _++_, map}
 use mathlib.Core.Logic.{_⊎_, ⊎-elim}
-use Prim.Native.Nat.{ℕ, zero, suc, _+_, _-_, _≤_, _<_}
+use Prim.Native.Nat.{ℕ, suc, _+_, _-_, _≤_, _<_}
 use native.Mathlib.Nat.{add-sub-cancel-left}
 use native.Mathlib.Omega.{arith}
-use lib.Dec.{eqb}
 use lib.ListN.{length, take, drop, replicate, length-take, length-drop, length-replicate, length-map}
-use lib.Seq.{sets, sets-eq, take-at}
+use lib.Seq.{sets-eq, take-at}
 use borrow.Author.Tests.{not-true, not-false, eqb-true}
-use Rattle.paper.specs.declared.Facts.{Facts}
 use Rattle.paper.specs.declared.Found.{Found}
 use Rattle.paper.specs.declared.Findings.{Findings}
 use Rattle.paper.specs.declared.Kind.{Kind}

@@ -1,7 +1,7 @@
 -- The numbers of accepted documents, and what a document leaves for the later ones. Assumes nothing.
 use mathlib.Core.Path.{_≡_, refl, sym, ap, _∙_}
 use mathlib.Core.Bool.{Bool, true, false, cond, _&&_, _||_}
-use mathlib.Core.List.{List, [], _∷_, _++_, map, map-append}
+use mathlib.Core.List.{List, [], _∷_, _++_, map-append}
 use Prim.Native.Nat.{ℕ, zero, suc, _+_, _-_, _≤_, _<_, min}
 use native.Mathlib.Numerals.{add-one}
 use native.Mathlib.Omega.{arith}
@@ -13,12 +13,12 @@ use Rattle.paper.specs.declared.Layout.the-variants.{L4868}
 use Rattle.paper.specs.declared.Letter.{Letter}
 use Rattle.paper.specs.declared.Kind.{Kind}
 use Rattle.paper.specs.declared.Step.{Step}
-use Rattle.paper.specs.declared.Kind.the-variants.{Form, Stray}
+use Rattle.paper.specs.declared.Kind.the-variants.{Form}
 use Rattle.paper.specs.Bytes.{Bytes, bit, same, member, part, digits, firstOr}
 use Rattle.paper.specs.Layouts.{form4868, entry, field}
 use Rattle.paper.specs.Pack.{Lines}
-use Rattle.paper.specs.Walk.{Doc, step, records, kindOf, is}
-use Rattle.paper.specs.Judge.{Before, start, known, seen, digitsOr, afterKnown, passed, isA, asked, turn, after, letterOf}
+use Rattle.paper.specs.Walk.{step, records, kindOf, is}
+use Rattle.paper.specs.Judge.{start, known, seen, digitsOr, afterKnown, passed, isA, asked, turn, after, letterOf}
 use Rattle.layout.proofs.Laws.{entry-low}
 use Rattle.walk.specs.Parts.{docHere}
 use Rattle.walk.proofs.Records.{never}

@@ -1,26 +1,22 @@
 -- What the layer above asks of a judgment: the record set that it gives, that an accepted document is long, and that the searches find what
 -- the paper asks for. Assumes nothing.
 use mathlib.Core.Path.{_≡_, refl, sym, ap, _∙_, subst}
-use mathlib.Core.Bool.{Bool, true, false, not, cond, _&&_, _||_}
+use mathlib.Core.Bool.{Bool, true, false, not, cond}
 use mathlib.Core.List.{List, [], _∷_, _++_, map}
 use Prim.Native.Nat.{ℕ, suc, _≤_}
 use native.Mathlib.Omega.{arith}
-use borrow.Author.Tests.{not-false}
 use lib.ListN.{length, take, drop}
 use Rattle.paper.specs.declared.Facts.{Facts}
 use Rattle.paper.specs.declared.Found.{Found}
-use Rattle.paper.specs.declared.Findings.{Findings}
 use Rattle.paper.specs.declared.Judgment.{Judgment}
 use Rattle.paper.specs.declared.Kind.{Kind}
 use Rattle.paper.specs.declared.Kind.the-variants.{TranA, TranB, Form, Unknown, Payment, Auth, Summary, Recap, Stray}
-use Rattle.paper.specs.declared.Letter.{Letter}
-use Rattle.paper.specs.declared.Letter.the-variants.{A, R, D}
 use Rattle.paper.specs.declared.Layout.the-variants.{LPayment}
 use Rattle.paper.specs.Bytes.{Bytes, those, empty, firstOr}
 use Rattle.paper.specs.Layouts.{field}
 use Rattle.paper.specs.Pack.{Lines, Blocks, wellFormed, blockOf, blocksOf, linesOf}
 use Rattle.paper.specs.Walk.{Doc, kindOf, is, opens}
-use Rattle.paper.specs.Conditions.{View, view, pick, formHolds, formRules, rulesOf, holds, factsOf}
+use Rattle.paper.specs.Conditions.{View, view, pick, formHolds, formRules, holds, factsOf}
 use Rattle.paper.specs.Judge.{Before, Turn, known, ssnOf, spouseOf, stateOf, itemOf, asked, mark, findsIn, findings, letterBy, twice, letterOf, isA, sightOf, turn}
 use Rattle.paper.specs.File.{setBy, bytesOf, setOf}
 use Rattle.walk.specs.Shape.{docRecords}

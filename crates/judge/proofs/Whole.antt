@@ -2,10 +2,10 @@
 use mathlib.Core.Path.{_≡_, refl, sym, ap, _∙_}
 use mathlib.Core.Bool.{Bool, true, false, not, cond, _&&_, _||_}
 use mathlib.Core.List.{List, [], _∷_, _++_, map, append-nil}
-use Prim.Native.Nat.{ℕ, suc, _+_, _-_, _*_, _≤_, _<_}
+use Prim.Native.Nat.{ℕ, suc, _+_, _*_, _≤_, _<_}
 use native.Mathlib.Omega.{arith}
 use lib.Dec.{eqb, ltb}
-use lib.ListN.{length, take, drop, length-take, length-map}
+use lib.ListN.{length, take, drop}
 use lib.Seq.{drop-drop, drop-nil, take-nil}
 use borrow.Author.Tests.{eq-eqb, ne-eqb}
 use Rattle.paper.specs.declared.Facts.{Facts}
@@ -16,13 +16,13 @@ use Rattle.paper.specs.declared.Kind.{Kind}
 use Rattle.paper.specs.declared.Kind.the-variants.{Form, Payment, Auth}
 use Rattle.paper.specs.declared.Layout.the-variants.{L4868, LPayment}
 use Rattle.paper.specs.declared.Letter.{Letter}
-use Rattle.paper.specs.declared.Letter.the-variants.{A, R, D}
-use Rattle.paper.specs.Bytes.{Bytes, bit, those, empty, same, member, part, firstOr}
+use Rattle.paper.specs.declared.Letter.the-variants.{R, D}
+use Rattle.paper.specs.Bytes.{Bytes, bit, empty, same, member, part, firstOr}
 use Rattle.paper.specs.Layouts.{field}
-use Rattle.paper.specs.Pack.{Lines, linesIn, rows}
+use Rattle.paper.specs.Pack.{Lines, linesIn}
 use Rattle.paper.specs.Walk.{Doc, records, kindOf, is, own}
-use Rattle.paper.specs.Conditions.{Sight, View, sight, view, factsOf, holds, rulesOf}
-use Rattle.paper.specs.Judge.{Item, Case, Turn, known, ssnOf, spouseOf, stateOf, itemOf, ifKnown, asked, mark, findsIn, findsFrom, findings, letterBy, twice, letterOf, sightOf, turn}
+use Rattle.paper.specs.Conditions.{Sight, View, sight, view, factsOf}
+use Rattle.paper.specs.Judge.{Case, Turn, known, ssnOf, spouseOf, stateOf, itemOf, ifKnown, asked, findsIn, findsFrom, findings, letterBy, twice, letterOf, sightOf, turn}
 use Rattle.walk.specs.Shape.{rest, docRecords}
 use Rattle.walk.specs.Parts.{docHere}
 use Rattle.walk.proofs.Sound.{is-eq}
@@ -101,9 +101,6 @@ first-one [] = refl
 first-one (x ∷ l) = refl
 
 module _ (taxpayers banks filed states : Bytes) where
-  abbrev L : Lines
-  L = searched taxpayers banks filed states
-
   pub searched-taxpayer : (key : Bytes) → firstOr (searched taxpayers banks filed states 1 key) ≡ lineIn 33 key taxpayers
   unfolding searched
   searched-taxpayer key = first-one (lineIn 33 key taxpayers)

@@ -1,6 +1,6 @@
 -- The findings of a document as the code holds them. Assumes nothing.
-use Prim.Native.Nat.{ℕ, _+_, _-_, min}
-use mathlib.Core.Bool.{Bool, false, _||_}
+use Prim.Native.Nat.{_+_, _-_, min}
+use mathlib.Core.Bool.{false, _||_}
 use mathlib.Core.List.{List}
 use lib.ListN.{length, take, replicate}
 use lib.Seq.{sets}

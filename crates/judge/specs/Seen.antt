@@ -1,6 +1,6 @@
 -- What a document sees of the earlier ones, as places in the transmission, and what it leaves for the later ones. Assumes nothing.
 use Prim.Native.Nat.{ℕ, _+_}
-use mathlib.Core.Bool.{Bool, cond, _&&_}
+use mathlib.Core.Bool.{cond, _&&_}
 use mathlib.Core.List.{List, [], map}
 use lib.Dec.{eqb, ltb}
 use lib.ListN.{take, drop, set, replicate}

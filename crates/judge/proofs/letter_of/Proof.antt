@@ -1,6 +1,6 @@
 use mathlib.Core.Path.{_∙_, ap, sym}
 use Rattle.paper.specs.Judge.{letterBy}
-use mathlib.Core.Bool.{Bool, true, false}
+use mathlib.Core.Bool.{true}
 use borrow.Author.Needs.{needs}
 use Rattle.judge.proofs.Whole.{letter-r, letter-filed, letter-rest}
 use Rattle.judge.proofs.letter_of.Statement.{statement}

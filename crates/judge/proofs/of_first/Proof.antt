@@ -1,4 +1,3 @@
-use native.Mathlib.Omega.{arith}
 use mathlib.Core.List.{[]}
 use denote.Ref.{now}
 use Rattle.paper.specs.Pack.{linesIn}
