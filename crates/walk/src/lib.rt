@@ -14,7 +14,7 @@ ghost use Rattle.paper.specs.Walk.{countOf, starts, step, namedForm, named, fit
 ghost use Rattle.paper.specs.Conditions.{forType, factsOf, factsWith};
 ghost use Rattle.paper.specs.declared.Kind.the-variants.{TranA, TranB, Form, Unknown, Payment, Auth, Summary, Recap};
 ghost use Rattle.paper.specs.declared.Order.the-variants.{Broken};
-ghost use Rattle.walk.specs.Scan.{concluded, shapeOf, docRecords, pinAfter, Small};
+ghost use Rattle.walk.specs.Shape.{concluded, shapeOf, docRecords, pinAfter, Small};
 
 // A transmission that is rejected with 0823, or a sound one of so many documents.
 pub enum Outer {

@@ -1,0 +1,159 @@
+//! The mass comparison: both receivers on the same cases, byte for byte.
+
+use crate::cases::{Case, Room, case};
+use crate::prng::Prng;
+use crate::shrink;
+use crate::tally::Tally;
+use crate::{Receiver, independent};
+
+/// Longer than any file.
+const SCRATCH: usize = 1 << 20;
+/// Bytes after the output, which must stay as well.
+const GUARD: usize = 32;
+
+/// What a receiver gave back: its answer, and the output with the guard.
+pub struct Outcome<'b> {
+    pub answer: u64,
+    pub output: &'b [u8],
+}
+
+/// The buffers that all cases share.
+pub struct Bench {
+    other: Receiver,
+    scratch: Vec<u8>,
+    expected: Vec<u8>,
+    found: Vec<u8>,
+}
+
+impl Bench {
+    /// Compares `other` with the independent receiver.
+    pub fn new(other: Receiver) -> Self {
+        let buffer = || vec![0; SCRATCH + GUARD];
+        Bench { other, scratch: buffer(), expected: buffer(), found: buffer() }
+    }
+
+    /// The output length that a case's room asks for.
+    pub fn output_length(&mut self, case: &Case) -> usize {
+        let scratch = &mut self.scratch[..SCRATCH];
+        let file = independent(&case.transmission, &case.pack, &case.date, &case.name, scratch) as u32 as usize;
+        match case.room {
+            Room::Beyond(more) => file + more,
+            Room::Short(less) => file.saturating_sub(less),
+            Room::Any(length) => length,
+        }
+    }
+
+    /// The outcomes of the independent receiver and of the other one.
+    pub fn outcomes(&mut self, case: &Case) -> [Outcome<'_>; 2] {
+        let length = self.output_length(case);
+        let expected = run(independent, case, &mut self.expected, length);
+        let found = run(self.other, case, &mut self.found, length);
+        [expected, found]
+    }
+
+    pub fn differs(&mut self, case: &Case) -> bool {
+        let [expected, found] = self.outcomes(case);
+        expected.answer != found.answer || expected.output != found.output
+    }
+}
+
+fn run<'b>(receiver: Receiver, case: &Case, buffer: &'b mut [u8], length: usize) -> Outcome<'b> {
+    let buffer = &mut buffer[..length + GUARD];
+    for (place, byte) in buffer.iter_mut().enumerate() {
+        *byte = (place as u8).wrapping_mul(7) ^ case.pattern;
+    }
+    let answer = receiver(&case.transmission, &case.pack, &case.date, &case.name, &mut buffer[..length]);
+    Outcome { answer, output: buffer }
+}
+
+/// Runs `count` cases; reports what occurred, or the first disagreement with its smallest case.
+pub fn compare(other: Receiver, count: u64, seed: u64) -> bool {
+    println!("comparing {count} cases from seed {seed}");
+    let mut bench = Bench::new(other);
+    let mut tally = Tally::new();
+    let mut seeds = Prng::new(seed);
+    for _ in 0..count {
+        let seed = seeds.next();
+        let case = case(seed);
+        let [expected, found] = bench.outcomes(&case);
+        if expected.answer != found.answer || expected.output != found.output {
+            println!("disagreement on the case of seed {seed:#018x}");
+            shrink::report(&mut bench, case);
+            return false;
+        }
+        tally.add(expected.answer, expected.output);
+    }
+    println!("{count} cases agree: answer, length, every byte of the output and after it");
+    tally.report()
+}
+
+/// Shows the case of a seed, and whether the receivers agree on it.
+pub fn show(other: Receiver, seed: u64) -> bool {
+    let mut bench = Bench::new(other);
+    let case = case(seed);
+    let differs = bench.differs(&case);
+    if differs {
+        shrink::report(&mut bench, case);
+    } else {
+        shrink::print(&mut bench, &case);
+    }
+    !differs
+}
+
+/// Tries the comparison on receivers with known faults: each must be found, and shrunk to one document.
+pub fn try_faults() -> bool {
+    let faults: [(&str, Receiver); 4] = [
+        ("a wrong code", wrong_code),
+        ("a byte after the file", touches_after),
+        ("an output touched by a refusal", touches_refused),
+        ("a wrong answer", wrong_answer),
+    ];
+    faults.iter().all(|(name, receiver)| {
+        let found = find_fault(*receiver);
+        println!("known fault, {name}: {}", if found { "found and shrunk" } else { "NOT FOUND" });
+        found
+    })
+}
+
+fn find_fault(receiver: Receiver) -> bool {
+    let mut bench = Bench::new(receiver);
+    let mut seeds = Prng::new(1);
+    let found = (0..20_000).map(|_| case(seeds.next())).find(|case| bench.differs(case));
+    found.is_some_and(|case| {
+        let least = shrink::shrink(&mut bench, case);
+        bench.differs(&least) && shrink::openings(&least.transmission) <= 1
+    })
+}
+
+fn wrong_code(transmission: &[u8], pack: &[u8], date: &[u8], name: &[u8], out: &mut [u8]) -> u64 {
+    let answer = independent(transmission, pack, date, name, out);
+    for record in out[..answer as u32 as usize].chunks_mut(120).filter(|record| record.starts_with(b"0120****ACKR")) {
+        if record[60..64] == *b"0397" {
+            record[63] = b'8';
+        }
+    }
+    answer
+}
+
+fn touches_after(transmission: &[u8], pack: &[u8], date: &[u8], name: &[u8], out: &mut [u8]) -> u64 {
+    let answer = independent(transmission, pack, date, name, out);
+    if let (0, Some(after)) = (answer >> 32, out.get_mut(answer as usize)) {
+        *after = after.wrapping_add(1);
+    }
+    answer
+}
+
+fn touches_refused(transmission: &[u8], pack: &[u8], date: &[u8], name: &[u8], out: &mut [u8]) -> u64 {
+    let answer = independent(transmission, pack, date, name, out);
+    if answer >> 32 == 4 && out.len() >= 240 {
+        out.fill(b' ');
+    }
+    answer
+}
+
+fn wrong_answer(transmission: &[u8], pack: &[u8], date: &[u8], name: &[u8], out: &mut [u8]) -> u64 {
+    match independent(transmission, pack, date, name, out) >> 32 {
+        3 => 2 << 32,
+        _ => independent(transmission, pack, date, name, out),
+    }
+}

@@ -1,0 +1,89 @@
+//! The independent receiver: document 01 in safe Rust, written for speed. Nothing is allocated: the walk notes each
+//! record's place and kind in a row on the stack, the judgment adds the set of its findings, the length follows from
+//! the counts, and the file is written in one go.
+
+#![forbid(unsafe_code)]
+
+mod bytes;
+mod file;
+mod judge;
+pub mod layout;
+mod pack;
+pub mod rules;
+pub mod walk;
+
+use bytes::is_date;
+use file::Rejection;
+use judge::Receiver;
+use layout::{recap, trana};
+use pack::Pack;
+use walk::{Entry, LONGEST, MOST_RECORDS, SHORTEST_RECORD};
+
+/// A row of this many records does for a small transmission, and costs less to set up.
+const FEW_RECORDS: usize = 64;
+
+#[derive(Clone, Copy, PartialEq, Eq, Debug)]
+pub enum Refusal {
+    Transmission = 1,
+    Pack = 2,
+    DateOrName = 3,
+    Output = 4,
+}
+
+/// Writes the acknowledgment file and gives its length, or refuses and leaves the output as it was.
+pub fn acknowledge(
+    transmission: &[u8],
+    pack: &[u8],
+    date: &[u8],
+    name: &[u8],
+    out: &mut [u8],
+) -> Result<usize, Refusal> {
+    if transmission.len() > LONGEST {
+        return Err(Refusal::Transmission);
+    }
+    let pack = Pack::read(pack).ok_or(Refusal::Pack)?;
+    let date: &[u8; 8] = date.try_into().map_err(|_| Refusal::DateOrName)?;
+    let name: &[u8; 20] = name.try_into().map_err(|_| Refusal::DateOrName)?;
+    if !is_date(date) || !is_file_name(name) {
+        return Err(Refusal::DateOrName);
+    }
+    let receiver = Receiver { pack, date, name };
+    let mut few;
+    let mut many;
+    let entries: &mut [Entry] = if transmission.len() / SHORTEST_RECORD <= FEW_RECORDS {
+        few = [Entry::NONE; FEW_RECORDS];
+        &mut few
+    } else {
+        many = [Entry::NONE; MOST_RECORDS];
+        &mut many
+    };
+    answer(transmission, &receiver, entries, out)
+}
+
+fn is_file_name(name: &[u8; 20]) -> bool {
+    name.iter().all(|byte| (32..=126).contains(byte))
+}
+
+fn answer(transmission: &[u8], receiver: &Receiver, entries: &mut [Entry], out: &mut [u8]) -> Result<usize, Refusal> {
+    let Some(mut walked) = walk::walk(transmission, entries) else {
+        return reject(Rejection::NoStructure, out);
+    };
+    let digits = trana::TWELVE_DIGITS.of(walked.trana);
+    let accepted_before = receiver.pack.has_transmission(digits);
+    let recap_differs = recap::TWELVE_DIGITS.of(walked.recap) != digits;
+    if accepted_before || recap_differs {
+        return reject(Rejection::Numbers { digits, accepted_before, recap_differs }, out);
+    }
+    judge::judge(&mut walked, receiver);
+    let length = file::length(&walked);
+    let out = out.get_mut(..length).ok_or(Refusal::Output)?;
+    file::write(&walked, receiver, out);
+    Ok(length)
+}
+
+fn reject(rejection: Rejection, out: &mut [u8]) -> Result<usize, Refusal> {
+    let length = rejection.length();
+    let out = out.get_mut(..length).ok_or(Refusal::Output)?;
+    rejection.write(out);
+    Ok(length)
+}

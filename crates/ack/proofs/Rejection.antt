@@ -1,0 +1,83 @@
+-- The answer for a file, and the whole rejection. Assumes nothing.
+use mathlib.Core.Path.{_≡_, refl, sym, ap, _∙_}
+use mathlib.Core.List.{List, [], _∷_, _++_}
+use Prim.Native.Nat.{ℕ, _+_, _*_, _≤_, _<_}
+use native.Mathlib.Omega.{arith}
+use borrow.Author.Tests.{lt-ltb, le-ltb}
+use lib.ListN.{length, drop, replicate, length-append}
+use lib.Seq.{sets-eq}
+use Rattle.paper.specs.declared.Answer.{Answer}
+use Rattle.paper.specs.declared.Answer.the-variants.{File, Refused}
+use Rattle.paper.specs.declared.Codes.{Codes}
+use Rattle.paper.specs.declared.Refusal.the-variants.{ShortOutput}
+use Rattle.paper.specs.declared.Verdict.the-variants.{Whole}
+use Rattle.paper.specs.Bytes.{Bytes, bytes, zeros, blanks}
+use Rattle.paper.specs.File.{laid, keyRecord, errorRecord, codeList, wholeErrors, rejection}
+use Rattle.record.proofs.Laws.{length-key, length-error}
+use Rattle.sets.proofs.Laws.{laid-append}
+use Rattle.ack.specs.Ties.{Given}
+
+-- n bytes of a file do not fit, or do and stand at the front
+module _ (file out : Bytes) (n : ℕ) (e : n ≡ length file) where
+  pub refuse : length out < n → Given file out out (Refused ShortOutput)
+  refuse h = let s : length out < length file = omega arith in record { says = rw (lt-ltb _ _ s); leaves = refl }
+
+  pub give : (out' : Bytes) → n ≤ length out → out' ≡ laid out 0 file → Given file out out' (File n)
+  give out' h eo = let s : length file ≤ length out = omega arith in record { says = rw (le-ltb _ _ s, e); leaves = eo }
+
+-- a record that a call made, laid in
+pub laid-as : (o out q e : Bytes) (at : ℕ) → o ≡ laid out at q → q ≡ e → o ≡ laid out at e
+laid-as o out q e at v w = v ∙ ap (laid out at) w
+
+-- THE ERROR RECORDS OF THE CODES
+
+abbrev pub errorFor : ℕ → ℕ → Bytes
+errorFor n code = errorRecord (zeros 9) n (blanks 6) (blanks 6) (zeros 5) (zeros 7) code
+
+length-codes : (n : ℕ) (cs : List ℕ) → length (wholeErrors n cs) ≡ 120 * length cs
+length-codes n [] = refl
+length-codes n (c ∷ cs) =
+    length-append (errorFor n c) (wholeErrors (n + 1) cs)
+    ∙ omega (arith, length-error (zeros 9) n (blanks 6) (blanks 6) (zeros 5) (zeros 7) c, length-codes (n + 1) cs)
+
+no-more : (l : Bytes) → l ≡ l ++ []
+no-more [] = refl
+no-more (x ∷ l) = ap (λ (m : Bytes). x ∷ m) (no-more l)
+
+module _ (out : Bytes) (codes : Codes) (c : ℕ) where
+  pub one-code : (o : Bytes) → codeList codes ≡ c ∷ [] → o ≡ laid out 120 (errorFor 1 c) → o ≡ laid out 120 (wholeErrors 1 (codeList codes))
+  one-code o e v = v ∙ ap (laid out 120) (no-more (errorFor 1 c)) ∙ ap (λ (cs : List ℕ). laid out 120 (wholeErrors 1 cs)) (sym e)
+
+  pub two-codes : (d : ℕ) (o o' : Bytes) → codeList codes ≡ c ∷ d ∷ [] → o ≡ laid out 120 (errorFor 1 c) → o' ≡ laid o 240 (errorFor 2 d)
+      → o' ≡ laid out 120 (wholeErrors 1 (codeList codes))
+  two-codes d o o' e v w =
+      let h : 240 ≡ 120 + length (errorFor 1 c) = omega (arith, length-error (zeros 9) 1 (blanks 6) (blanks 6) (zeros 5) (zeros 7) c) in
+      w ∙ (λ i. laid (v i) (h i) (errorFor 2 d)) ∙ ap (laid (laid out 120 (errorFor 1 c)) (120 + length (errorFor 1 c))) (no-more (errorFor 2 d))
+      ∙ laid-append (errorFor 1 c) (errorFor 2 d ++ []) out 120 ∙ ap (λ (cs : List ℕ). laid out 120 (wholeErrors 1 cs)) (sym e)
+
+module _ (sequence : Bytes) (codes : Codes) where
+  abbrev key : ℕ → Bytes
+  key n = keyRecord (zeros 9) sequence (Whole codes) 32 (zeros 8) (zeros 14) n (blanks 15)
+
+  pub rejection-size : (n : ℕ) → n ≡ length (codeList codes) → 120 + 120 * n ≡ length (rejection sequence codes)
+  unfolding rejection
+  rejection-size n e =
+      sym (length-append (key (length (codeList codes))) (wholeErrors 1 (codeList codes))
+      ∙ omega (arith, length-key (zeros 9) sequence (Whole codes) 32 (zeros 8) (zeros 14) (length (codeList codes)) (blanks 15), length-codes 1 (codeList codes)))
+
+  pub rejection-laid : (n : ℕ) (k out o o' : Bytes) → n ≡ length (codeList codes) → k ≡ key n → o ≡ laid out 0 k → o' ≡ laid o 120 (wholeErrors 1 (codeList codes))
+      → o' ≡ laid out 0 (rejection sequence codes)
+  unfolding rejection
+  rejection-laid n k out o o' en ek e1 e2 =
+      let m = length (codeList codes) in
+      let q : k ≡ key m = ek ∙ ap key en in
+      let h : 120 ≡ 0 + length (key m) = omega (arith, length-key (zeros 9) sequence (Whole codes) 32 (zeros 8) (zeros 14) m (blanks 15)) in
+      e2 ∙ ap (λ (x : Bytes). laid x 120 (wholeErrors 1 (codeList codes))) e1
+      ∙ (λ i. laid (laid out 0 (q i)) (h i) (wholeErrors 1 (codeList codes))) ∙ laid-append (key m) (wholeErrors 1 (codeList codes)) out 0
+
+-- a text at the front of zeros
+pub padded : (t o : Bytes) (n : ℕ) → length t ≡ n → o ≡ laid (zeros (n + 4)) 0 t → n ≡ 12 → o ≡ t ++ bytes "0000"
+unfolding laid
+padded t o n l e h =
+    let f : 0 + length t ≤ length (zeros 16) = omega arith in
+    e ∙ ap (λ (k : ℕ). laid (zeros (k + 4)) 0 t) h ∙ sets-eq t (zeros 16) 0 f ∙ ap (λ (k : ℕ). t ++ drop (0 + k) (zeros 16)) (l ∙ h)

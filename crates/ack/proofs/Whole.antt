@@ -1,0 +1,62 @@
+-- The whole file. Assumes nothing.
+use mathlib.Core.Path.{_≡_, refl, sym, ap, _∙_, subst}
+use mathlib.Core.List.{List, [], _∷_, _++_, map, append-assoc}
+use Prim.Native.Nat.{ℕ, _+_, _-_, _*_, _≤_, _<_}
+use native.Mathlib.Omega.{arith}
+use lib.ListN.{length, take, drop, length-append, length-take, length-map}
+use lib.Seq.{take-add}
+use Rattle.paper.specs.declared.Layout.the-variants.{LTrana}
+use Rattle.paper.specs.Bytes.{Bytes, part}
+use Rattle.paper.specs.Layouts.{through}
+use Rattle.paper.specs.Pack.{Lines}
+use Rattle.paper.specs.Walk.{records, twelve, docsOf}
+use Rattle.paper.specs.Judge.{Before, Case, Turn, turn, turns, after, asked, start}
+use Rattle.paper.specs.File.{laid, recapRecord, acceptedIn}
+use Rattle.record.proofs.Laws.{length-recap}
+use Rattle.sets.proofs.Laws.{laid-append}
+use Rattle.walk.specs.Parts.{Parts}
+use Rattle.walk.proofs.Laws.{tail}
+use Rattle.ack.specs.declared.Done.{Done}
+use Rattle.ack.specs.Ties.{Begins, turnsIn, setsIn, judgedFile, Written}
+use Rattle.ack.proofs.Tour.{parts, docs-count}
+
+length-turns : (date : Bytes) (b : Before) (cs : List Case) → length (turns date b cs) ≡ length cs
+length-turns date b [] = refl
+length-turns date b (c ∷ cs) = let ih = length-turns date (after (turn date b c)) cs in omega arith
+
+module _ (L : Lines) (date name t : Bytes) (n : ℕ) (b : Begins t n) where
+  abbrev ts : List Turn
+  ts = turnsIn L date t
+
+  turns-count : length ts ≡ n
+  turns-count = length-turns date start (map (asked L) (docsOf (records t))) ∙ length-map (docsOf (records t)) (asked L) ∙ sym (docs-count t n (b .sound))
+
+  abbrev recap : Bytes
+  recap = recapRecord (drop (length t - 120) t) (twelve (take 120 t)) (acceptedIn ts) n name
+
+  -- the file, of the parts that the code writes
+  as-written : judgedFile L date name t ≡ take 240 t ++ setsIn ts ++ recap
+  unfolding judgedFile
+  as-written =
+      let p = parts t n (b .sound) in
+      (λ i. p .trana i ++ p .tranb i ++ setsIn ts ++ recapRecord (p .recap i) (twelve (p .trana i)) (acceptedIn ts) (turns-count i) name)
+      ∙ ap (λ (x : Bytes). x ++ setsIn ts ++ recap) (sym (take-add 120 120 t))
+
+  head-size : length (take 240 t) ≡ 240
+  head-size = omega (arith, length-take 240 t, b .long)
+
+  pub file-size : length (judgedFile L date name t) ≡ 360 + length (setsIn ts)
+  file-size =
+      ap length as-written ∙ length-append (take 240 t ++ setsIn ts) recap
+      ∙ omega (arith, length-append (take 240 t) (setsIn ts), head-size, length-recap (drop (length t - 120) t) (twelve (take 120 t)) (acceptedIn ts) n name)
+
+  pub file-laid : (out o1 o2 o3 q digits : Bytes) (d : Done) → o1 ≡ laid out 0 (take 240 t) → Written ts 240 o1 o2 d → digits ≡ through LTrana 60 80 (take 120 t)
+      → q ≡ recapRecord (take (length t - (length t - 120)) (drop (length t - 120) t)) digits (d .accepted) n name → o3 ≡ laid o2 (d .to) q → o3 ≡ laid out 0 (judgedFile L date name t)
+  unfolding twelve
+  file-laid out o1 o2 o3 q digits d e1 w ed eq e3 =
+      let q' : q ≡ recap = eq ∙ (λ i. recapRecord (tail t (length t - 120) i) (ed i) (w .counts i) n name) in
+      let head : 240 ≡ 0 + length (take 240 t) = omega (arith, head-size) in
+      let both : o2 ≡ laid out 0 (take 240 t ++ setsIn ts) =
+      w .holds ∙ (λ i. laid (e1 i) (head i) (setsIn ts)) ∙ laid-append (take 240 t) (setsIn ts) out 0 in
+      let at : d .to ≡ 0 + length (take 240 t ++ setsIn ts) = omega (arith, w .ends, length-append (take 240 t) (setsIn ts), head-size) in
+      e3 ∙ (λ i. laid (both i) (at i) (q' i)) ∙ laid-append (take 240 t ++ setsIn ts) recap out 0 ∙ ap (laid out 0) (sym as-written)

@@ -1,0 +1,12 @@
+use Rattle.paper.specs.Answer.{fileName}
+use borrow.Author.Needs.{needs}
+use Rattle.ack.proofs.is_file_name.Statement.{statement}
+use Rattle.ack.proofs.is_file_name.Tie as tie
+
+pub is-file-name-spec : {M : Type 1} → statement M
+unfolding fileName
+is-file-name-spec =
+    tie.close
+    (tie.spec
+    (λ c κs. search needs)
+    (λ c. cc))

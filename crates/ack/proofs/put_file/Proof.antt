@@ -1,0 +1,51 @@
+use mathlib.Core.Path.{_≡_, _∙_}
+use Prim.Native.Nat.{_+_, _≤_}
+use native.Mathlib.Omega.{arith}
+use lib.ListN.{length}
+use denote.Ref.{now}
+use Rattle.paper.specs.Pack.{Lines}
+use Rattle.judge.specs.Judged.{searched}
+use Rattle.ack.specs.Ties.{turnsIn, setsIn}
+use Rattle.ack.proofs.Whole.{file-size, file-laid}
+use borrow.Author.Needs.{needs}
+use Rattle.ack.proofs.put_file.Statement.{statement}
+use Rattle.ack.proofs.put_file.Tie as tie
+
+abbrev lines : tie.Start → Lines
+lines s = searched (now (s .args .taxpayers)) (now (s .args .banks)) (now (s .args .filed)) (now (s .args .states))
+
+pub put-file-spec : {M : Type 1} → statement M
+put-file-spec =
+    tie.close
+    (tie.spec
+    (λ c. search needs)
+    (λ c. search needs)
+    (λ c. search needs)
+    (λ c κs. search needs)
+    (λ c κs.
+    let s = c .before .before .before .before .before .before .before .before .before .before .before .before .before .before in
+    let a = s .args in
+    let f = file-size (lines s) (now (a .date)) (now (a .name)) (now (a .t)) (a .n) (s .pre .0) in
+    (s .pre .0, omega (arith, s .pre .1, c .before .before .before .put .kept .0)))
+    (λ c. search needs)
+    (λ c. search needs)
+    (λ c. search needs)
+    (λ c. search needs)
+    (λ c κs. search needs)
+    (λ c. search needs)
+    (λ c. search needs)
+    (λ c. search needs)
+    (λ c. search needs)
+    (λ c. search needs)
+    (λ c κs. search needs)
+    (λ c. search needs)
+    (λ c κs. search needs)
+    (λ c. search needs)
+    (λ c.
+    let r = c .before .before .before .before .before in
+    let w = r .before .before .before .before .before .before .before in
+    let u = w .before .before .before .before in
+    let s = u .before .before .before .before .before .before .before .before .before .before .before in
+    let a = s .args in
+    file-laid (lines s) (now (a .date)) (now (a .name)) (now (a .t)) (a .n) (s .pre .0) (now (a .out)) (u .put .last .0) (w .write-sets .last .1 .1 .1 .1 .1 .1 .1 .0) (c .before .before .put2 .last .0) (r .recap-record .result) (now (r .before .before .before .through .result)) (w .write-sets .result)
+    (u .put .ensures) (w .write-sets .ensures) (r .before .before .before .through .ensures) (r .recap-record .ensures) (c .before .before .put2 .ensures)))

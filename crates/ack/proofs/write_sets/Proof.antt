@@ -1,0 +1,68 @@
+use Prim.Native.Nat.{_≤_, _+_, _*_, _-_}
+use native.Mathlib.Omega.{arith}
+use lib.ListN.{length}
+use denote.Ref.{now}
+use Rattle.paper.specs.Pack.{Lines}
+use Rattle.judge.specs.Judged.{searched}
+use Rattle.ack.proofs.Tour.{Writing, write-start, write-fits, write-on, write-end, tour-fits}
+use borrow.Author.Needs.{needs}
+use Rattle.ack.proofs.write_sets.Statement.{statement}
+use Rattle.ack.proofs.write_sets.Tie as tie
+
+abbrev Inv-loop : tie.InvT-loop
+Inv-loop t n taxpayers banks filed states date out₀ past₀ at₀ to₀ accepted₀ i₀ out past at to accepted i =
+    Writing (searched taxpayers banks filed states) date t n out₀ past at to accepted i out
+
+abbrev μ-loop : tie.MeasureT-loop
+μ-loop t n taxpayers banks filed states date out₀ past₀ at₀ to₀ accepted₀ i₀ out past at to accepted i = n - i
+
+abbrev lines : tie.Start Inv-loop μ-loop → Lines
+lines s = searched (now (s .args .taxpayers)) (now (s .args .banks)) (now (s .args .filed)) (now (s .args .states))
+
+fits : (c : tie.After-struct-known Inv-loop μ-loop)
+    → (c .before .judge .result .found .kept ≤ 96) × (c .before .before .before .loop .at + c .before .judge .result .facts .size ≤ length (now (c .before .before .before .before .before .before .before .before .before .before .before .before .args .t)))
+    × (c .before .before .before .loop .to + (120 + 120 * c .before .judge .result .found .kept) ≤ length (c .before .before .before .loop .out)) × (c .before .before .before .loop .to ≤ 762839040)
+fits c =
+    let g = c .before in
+    let l = g .before .before in
+    let s = l .before .before .before .before .before .before .before .before .before in
+    let f = tour-fits (lines s) (now (s .args .date)) (now (s .args .t)) (s .args .n) (l .loop .i) (l .loop .at) (l .loop .past) (l .loop .inv .tour) (g .before .loop-test .taken) (g .judge .result) (g .judge .ensures) in
+    let w = write-fits (lines s) (now (s .args .date)) (now (s .args .t)) (s .args .n) (now (s .args .out)) (l .loop .past) (l .loop .at) (l .loop .to) (l .loop .accepted) (l .loop .i) (l .loop .out) (l .loop .inv) (g .before .loop-test .taken) (g .judge .result) (g .judge .ensures) (s .pre .1) in
+    (f .0, f .1, w .0, w .1)
+
+pub write-sets-spec : {M : Type 1} → statement M
+write-sets-spec =
+    tie.close
+    (tie.spec
+    Inv-loop
+    μ-loop
+    (λ c κs. search needs)
+    (λ c. let s = c .before .before .before .before .before .before .before .before in write-start (lines s) (now (s .args .date)) (now (s .args .t)) (s .args .n) (now (s .args .out)) (c .no-past .result) (s .pre .0) (c .no-past .ensures))
+    (λ c κs. search needs)
+    (λ c. let f = fits c in search needs)
+    (λ c. let f = fits c in search needs)
+    (λ c. let f = fits c in search needs)
+    (λ c. let f = fits c in search needs)
+    (λ c. let f = fits (c .before) in search needs)
+    (λ c. let f = fits (c .before) in search needs)
+    (λ c. let f = fits (c .before) in search needs)
+    (λ c κs. search needs)
+    (λ c. let f = fits (c .before .before .before .before .before .before) in search needs)
+    (λ c. let f = fits (c .before .before .before .before .before .before) in search needs)
+    (λ c. let f = fits (c .before .before .before .before .before .before) in search needs)
+    (λ c κs. search needs)
+    (λ c. search needs)
+    (λ c κs. search needs)
+    (λ c. search needs)
+    (λ c. search needs)
+    (λ c.
+    let g = c .before .before .before .before .before .before .before .before .before in
+    let l = g .before .before in
+    let s = l .before .before .before .before .before .before .before .before .before in
+    write-on (lines s) (now (s .args .date)) (now (s .args .t)) (s .args .n) (now (s .args .out)) (l .loop .past) (l .loop .at) (l .loop .to) (l .loop .accepted) (l .loop .i) (l .loop .out) (l .loop .inv) (g .before .loop-test .taken) (g .judge .result) (g .judge .ensures)
+    (c .pass .result) (c .before .one-if .result) (c .before .before .before .before .before .put-set .last .0) (c .pass .ensures) (c .before .one-if .ensures .0) (c .before .one-if .ensures .1) (s .pre .1) (c .before .before .before .before .before .put-set .ensures))
+    (λ c. c .before .loop .inv .same)
+    (λ c.
+    let l = c .before in
+    let s = l .before .before .before .before .before .before .before .before .before in
+    write-end (lines s) (now (s .args .date)) (now (s .args .t)) (s .args .n) (now (s .args .out)) (l .loop .past) (l .loop .at) (l .loop .to) (l .loop .accepted) (l .loop .i) (l .loop .out) (l .loop .inv) (c .loop-test .left)))

@@ -1,0 +1,430 @@
+// The acknowledgment file of a transmission, and the entry points.
+use pack::Places;
+use pack::Shape;
+use paper::Answer;
+use paper::Codes;
+use paper::Layout;
+use paper::Letter;
+use paper::Refusal;
+use paper::Verdict;
+use walk::Outer;
+ghost use mathlib.Core.Path.{_≡_};
+ghost use mathlib.Core.List.{_++_};
+ghost use Prim.Native.Nat.{_+_, _*_, _≤_};
+ghost use lib.ListN.{length};
+ghost use Rattle.paper.specs.Bytes.{bytes, bit, every, within, zeros, blanks};
+ghost use Rattle.paper.specs.Judge.{isA};
+ghost use Rattle.paper.specs.File.{laid, errorRecord, codeList, wholeErrors, rejection};
+ghost use Rattle.paper.specs.Answer.{fileName, prescribed, answer, refusalNumber, numberOf, lengthOf, coded, leftBy};
+ghost use Rattle.pack.specs.Shape.{shapeOf};
+ghost use Rattle.judge.specs.Judged.{searched};
+ghost use Rattle.ack.specs.Ties.{blocksBy, Begins, turnsIn, setsIn, judgedFile, fileBy, routeBy, routeOf, Written, Given};
+
+// Where the record sets end, and how many documents are accepted.
+struct Done {
+    to: usize,
+    accepted: usize,
+}
+
+// The whole is rejected with these codes, or its documents are judged.
+enum Route {
+    Reject(Codes),
+    Judge,
+}
+
+// THE WHOLE REJECTION
+
+fn errors_of(codes: Codes) -> u32
+    ensures { λ r. ⌜ (r ≡ length (codeList codes)) × (r ≤ 2) ⌝ }
+{
+    match codes {
+        Codes::C0823 => 1,
+        Codes::C0822 => 1,
+        Codes::C0840 => 1,
+        Codes::C0822And0840 => 2,
+    }
+}
+
+// The n-th Error record, for a code.
+fn put_code(out: &mut [u8], n: u32, code: u32)
+    ensures { λ _. ⌜ now (out .exit) ≡ laid (now (out .entry)) (120 * n) (errorRecord (zeros 9) n (blanks 6) (blanks 6) (zeros 5) (zeros 7) code) ⌝ }
+{
+    let e = record::error_record(
+        b"000000000",
+        n,
+        b"      ",
+        b"      ",
+        b"00000",
+        b"0000000",
+        code,
+    );
+    sets::put(out, 120 * n as usize, &e)
+}
+
+fn put_codes(out: &mut [u8], codes: Codes)
+    ensures { λ _. ⌜ now (out .exit) ≡ laid (now (out .entry)) 120 (wholeErrors 1 (codeList codes)) ⌝ }
+{
+    match codes {
+        Codes::C0823 => put_code(out, 1, 823),
+        Codes::C0822 => put_code(out, 1, 822),
+        Codes::C0840 => put_code(out, 1, 840),
+        Codes::C0822And0840 => {
+            put_code(out, 1, 822);
+            put_code(out, 2, 840)
+        }
+    }
+}
+
+// One Key with T, and an Error record a code.
+fn reject(sequence: &[u8], codes: Codes, out: &mut [u8]) -> Answer
+    ensures { λ r. ⌜ Given (rejection (now (sequence .entry)) codes) (now (out .entry)) (now (out .exit)) r ⌝ }
+{
+    let errors = errors_of(codes);
+    let size = 120 + 120 * errors as usize;
+    if out.len() < size {
+        return Answer::Refused(Refusal::ShortOutput);
+    }
+    let v = Verdict::Whole(codes);
+    let key = record::key_record(
+        b"000000000",
+        sequence,
+        v,
+        b' ',
+        b"00000000",
+        b"00000000000000",
+        errors,
+        b"               ",
+    );
+    sets::put(out, 0, &key);
+    put_codes(out, codes);
+    Answer::File(size)
+}
+
+// The 12 digits and 0000.
+fn sequence_of(twelve: &[u8]) -> [u8; 16]
+    requires { ⌜ length (now twelve) ≡ 12 ⌝ }
+    ensures { λ r. ⌜ r ≡ now (twelve .entry) ++ bytes "0000" ⌝ }
+{
+    let mut s = [b'0'; 16];
+    sets::put(&mut s, 0, twelve);
+    s
+}
+
+// THE JUDGED FILE
+
+fn one_if(letter: Letter) -> usize
+    ensures { λ r. ⌜ (r ≡ bit (isA letter)) × (r ≤ 1) ⌝ }
+{
+    match letter {
+        Letter::A => 1,
+        Letter::R => 0,
+        Letter::D => 0,
+    }
+}
+
+// The length of the record sets of all documents.
+fn need(
+    t: &[u8],
+    n: usize,
+    taxpayers: &[u8],
+    banks: &[u8],
+    filed: &[u8],
+    states: &[u8],
+    date: &[u8],
+) -> usize
+    requires { ⌜ Begins (now t) n ⌝ }
+    ensures { λ r. ⌜ (r ≡ length (setsIn (turnsIn (searched (now (taxpayers .entry)) (now (banks .entry)) (now (filed .entry)) (now (states .entry))) (now (date .entry)) (now (t .entry))))) × (r ≤ 762839040) ⌝ }
+{
+    let mut before = judge::no_past();
+    let mut at: usize = 240;
+    let mut size: usize = 0;
+    let mut i: usize = 0;
+    while i < n {
+        let j = judge::judge(t, at, taxpayers, banks, filed, states, date, before);
+        let letter = j.letter;
+        size += 120 + 120 * j.found.kept;
+        before = judge::pass(t, at, before, letter);
+        at += j.facts.size;
+        i += 1;
+    }
+    size
+}
+
+// The record sets of all documents, written after the 240 bytes of TRANA and TRANB.
+fn write_sets(
+    t: &[u8],
+    n: usize,
+    taxpayers: &[u8],
+    banks: &[u8],
+    filed: &[u8],
+    states: &[u8],
+    date: &[u8],
+    out: &mut [u8],
+) -> Done
+    requires { ⌜ Begins (now t) n × (240 + length (setsIn (turnsIn (searched (now taxpayers) (now banks) (now filed) (now states)) (now date) (now t))) ≤ length (now out)) ⌝ }
+    ensures { λ d. ⌜ Written (turnsIn (searched (now (taxpayers .entry)) (now (banks .entry)) (now (filed .entry)) (now (states .entry))) (now (date .entry)) (now (t .entry))) 240 (now (out .entry)) (now (out .exit)) d ⌝ }
+{
+    let mut past = judge::no_past();
+    let mut at: usize = 240;
+    let mut to: usize = 240;
+    let mut accepted: usize = 0;
+    let mut i: usize = 0;
+    while i < n {
+        let j = judge::judge(t, at, taxpayers, banks, filed, states, date, past);
+        let letter = j.letter;
+        let end = at + j.facts.size;
+        sets::put_set(&mut out[to..], &t[at..end], date, j);
+        to += 120 + 120 * j.found.kept;
+        accepted += one_if(letter);
+        past = judge::pass(t, at, past, letter);
+        at = end;
+        i += 1;
+    }
+    Done { to, accepted }
+}
+
+// TRANA and TRANB, the record sets and the Recap, written at the front of out.
+fn put_file(
+    t: &[u8],
+    n: usize,
+    taxpayers: &[u8],
+    banks: &[u8],
+    filed: &[u8],
+    states: &[u8],
+    date: &[u8],
+    name: &[u8],
+    out: &mut [u8],
+)
+    requires { ⌜ Begins (now t) n × (length (judgedFile (searched (now taxpayers) (now banks) (now filed) (now states)) (now date) (now name) (now t)) ≤ length (now out)) ⌝ }
+    ensures { λ _. ⌜ now (out .exit) ≡ laid (now (out .entry)) 0 (judgedFile (searched (now (taxpayers .entry)) (now (banks .entry)) (now (filed .entry)) (now (states .entry))) (now (date .entry)) (now (name .entry)) (now (t .entry))) ⌝ }
+{
+    sets::put(out, 0, &t[0..240]);
+    let done = write_sets(t, n, taxpayers, banks, filed, states, date, out);
+    let to = done.to;
+    let from = t.len() - 120;
+    let twelve = layout::through(Layout::LTrana, 60, 80, &t[0..120]);
+    let recap = record::recap_record(&t[from..], twelve, done.accepted as u32, n as u32, name);
+    sets::put(out, to, &recap)
+}
+
+// The file of a transmission that is not rejected whole. Its length is known before a byte is written.
+fn judge_all(
+    t: &[u8],
+    n: usize,
+    taxpayers: &[u8],
+    banks: &[u8],
+    filed: &[u8],
+    states: &[u8],
+    date: &[u8],
+    name: &[u8],
+    out: &mut [u8],
+) -> Answer
+    requires { ⌜ Begins (now t) n ⌝ }
+    ensures { λ r. ⌜ Given (judgedFile (searched (now (taxpayers .entry)) (now (banks .entry)) (now (filed .entry)) (now (states .entry))) (now (date .entry)) (now (name .entry)) (now (t .entry))) (now (out .entry)) (now (out .exit)) r ⌝ }
+{
+    let whole = 360 + need(t, n, taxpayers, banks, filed, states, date);
+    if out.len() < whole {
+        return Answer::Refused(Refusal::ShortOutput);
+    }
+    put_file(t, n, taxpayers, banks, filed, states, date, name, out);
+    Answer::File(whole)
+}
+
+// WHICH OF THE TWO
+
+fn route_by(before: bool, differs: bool) -> Route
+    ensures { λ r. ⌜ r ≡ routeBy before differs ⌝ }
+{
+    if before {
+        if differs {
+            return Route::Reject(Codes::C0822And0840);
+        }
+        return Route::Reject(Codes::C0822);
+    }
+    if differs {
+        return Route::Reject(Codes::C0840);
+    }
+    Route::Judge
+}
+
+// 0822: the 12 digits were sent before; 0840: RECAP has others.
+fn route_of(t: &[u8], twelve: &[u8], sent: &[u8]) -> Route
+    requires { ⌜ 120 ≤ length (now t) ⌝ }
+    ensures { λ r. ⌜ r ≡ routeOf (now (t .entry)) (now (twelve .entry)) (now (sent .entry)) ⌝ }
+{
+    let from = t.len() - 120;
+    let again = layout::through(Layout::LRecap, 40, 60, &t[from..]);
+    let line = lookup::line_of(sent, 12, twelve);
+    route_by(line.len() != 0, !text::is_same(again, twelve))
+}
+
+// The file of a sound transmission, by the blocks of the pack.
+fn by_twelve(
+    t: &[u8],
+    n: usize,
+    taxpayers: &[u8],
+    banks: &[u8],
+    filed: &[u8],
+    states: &[u8],
+    sent: &[u8],
+    date: &[u8],
+    name: &[u8],
+    out: &mut [u8],
+) -> Answer
+    requires { ⌜ Begins (now t) n ⌝ }
+    ensures { λ r. ⌜ Given (fileBy (blocksBy (now (taxpayers .entry)) (now (banks .entry)) (now (filed .entry)) (now (states .entry)) (now (sent .entry))) (now (date .entry)) (now (name .entry)) (now (t .entry))) (now (out .entry)) (now (out .exit)) r ⌝ }
+{
+    let twelve = layout::through(Layout::LTrana, 60, 80, &t[0..120]);
+    match route_of(t, twelve, sent) {
+        Route::Reject(codes) => {
+            let sequence = sequence_of(twelve);
+            reject(&sequence, codes, out)
+        }
+        Route::Judge => judge_all(t, n, taxpayers, banks, filed, states, date, name, out),
+    }
+}
+
+// The file of a transmission, by the blocks of the pack.
+fn by_structure(
+    t: &[u8],
+    taxpayers: &[u8],
+    banks: &[u8],
+    filed: &[u8],
+    states: &[u8],
+    sent: &[u8],
+    date: &[u8],
+    name: &[u8],
+    out: &mut [u8],
+) -> Answer
+    requires { ⌜ length (now t) ≤ 65536 ⌝ }
+    ensures { λ r. ⌜ Given (fileBy (blocksBy (now (taxpayers .entry)) (now (banks .entry)) (now (filed .entry)) (now (states .entry)) (now (sent .entry))) (now (date .entry)) (now (name .entry)) (now (t .entry))) (now (out .entry)) (now (out .exit)) r ⌝ }
+{
+    match walk::structure(t) {
+        Outer::Rejected => reject(b"0000000000000000", Codes::C0823, out),
+        Outer::Sound(n) => by_twelve(t, n, taxpayers, banks, filed, states, sent, date, name, out),
+    }
+}
+
+// The file of a transmission, by the pack whose blocks stand at these places.
+fn by_pack(
+    t: &[u8],
+    pack: &[u8],
+    places: Places,
+    date: &[u8],
+    name: &[u8],
+    out: &mut [u8],
+) -> Answer
+    requires { ⌜ (length (now t) ≤ 65536) × (shapeOf (now pack) ≡ Shape.Good places) ⌝ }
+    ensures { λ r. ⌜ Given (prescribed (now (t .entry)) (now (pack .entry)) (now (date .entry)) (now (name .entry))) (now (out .entry)) (now (out .exit)) r ⌝ }
+{
+    let one = places.one;
+    let two = places.two;
+    let three = places.three;
+    let four = places.four;
+    let five = places.five;
+    let taxpayers = pack::lines_at(pack, one);
+    let banks = pack::lines_at(pack, two);
+    let filed = pack::lines_at(pack, three);
+    let states = pack::lines_at(pack, four);
+    let sent = pack::lines_at(pack, five);
+    by_structure(t, taxpayers, banks, filed, states, sent, date, name, out)
+}
+
+// THE ENTRY POINTS
+
+fn is_printable(x: u8) -> bool
+    ensures { λ r. ⌜ r ≡ within 32 126 x ⌝ }
+{
+    (32 <= x) & (x <= 126)
+}
+
+fn all_printable(s: &[u8]) -> bool
+    ensures { λ r. ⌜ r ≡ every (within 32 126) (now (s .entry)) ⌝ }
+{
+    let mut i = 0;
+    while i < s.len() {
+        if !is_printable(s[i]) {
+            return false;
+        }
+        i += 1;
+    }
+    true
+}
+
+fn is_file_name(s: &[u8]) -> bool
+    ensures { λ r. ⌜ r ≡ fileName (now (s .entry)) ⌝ }
+{
+    (s.len() == 20) & all_printable(s)
+}
+
+// The acknowledgment file of a transmission t, written at the front of out, or a refusal, which changes no byte of out.
+pub fn acknowledge(t: &[u8], pack: &[u8], date: &[u8], name: &[u8], out: &mut [u8]) -> Answer
+    ensures { λ r. ⌜ r ≡ answer (now (t .entry)) (now (pack .entry)) (now (date .entry)) (now (name .entry)) (length (now (out .entry))) ⌝ }
+    ensures { λ r. ⌜ now (out .exit) ≡ leftBy r (prescribed (now (t .entry)) (now (pack .entry)) (now (date .entry)) (now (name .entry))) (now (out .entry)) ⌝ }
+{
+    if 65536 < t.len() {
+        return Answer::Refused(Refusal::LongTransmission);
+    }
+    let Shape::Good(places) = pack::check(pack) else {
+        return Answer::Refused(Refusal::BadPack);
+    };
+    if !(date::valid_date(date) & is_file_name(name)) {
+        return Answer::Refused(Refusal::BadDateOrName);
+    }
+    by_pack(t, pack, places, date, name, out)
+}
+
+fn refusal_number(r: Refusal) -> u32
+    ensures { λ n. ⌜ (n ≡ refusalNumber r) × (n ≤ 4) ⌝ }
+{
+    match r {
+        Refusal::LongTransmission => 1,
+        Refusal::BadPack => 2,
+        Refusal::BadDateOrName => 3,
+        Refusal::ShortOutput => 4,
+    }
+}
+
+// 0 for a file, or the refusal's number.
+pub fn number_of(a: Answer) -> u32
+    ensures { λ n. ⌜ n ≡ numberOf a ⌝ }
+{
+    match a {
+        Answer::File(_) => 0,
+        Answer::Refused(r) => refusal_number(r),
+    }
+}
+
+// The file's length, or 0.
+pub fn length_of(a: Answer) -> usize
+    ensures { λ n. ⌜ n ≡ lengthOf a ⌝ }
+{
+    match a {
+        Answer::File(n) => n,
+        Answer::Refused(_) => 0,
+    }
+}
+
+fn code_of(a: Answer) -> u64
+    ensures { λ n. ⌜ n ≡ coded a ⌝ }
+{
+    match a {
+        Answer::File(n) => n as u64,
+        Answer::Refused(r) => refusal_number(r) as u64 * 4294967296,
+    }
+}
+
+// The same for programs in other languages: the number times 2 to the 32nd, plus the length.
+#[no_mangle]
+pub extern "C" fn bluffcradle_acknowledge(
+    t: &[u8],
+    pack: &[u8],
+    date: &[u8],
+    name: &[u8],
+    out: &mut [u8],
+) -> u64
+    ensures { λ r. ⌜ r ≡ coded (answer (now (t .entry)) (now (pack .entry)) (now (date .entry)) (now (name .entry)) (length (now (out .entry)))) ⌝ }
+    ensures { λ _. ⌜ now (out .exit) ≡ leftBy (answer (now (t .entry)) (now (pack .entry)) (now (date .entry)) (now (name .entry)) (length (now (out .entry)))) (prescribed (now (t .entry)) (now (pack .entry)) (now (date .entry)) (now (name .entry))) (now (out .entry)) ⌝ }
+{
+    code_of(acknowledge(t, pack, date, name, out))
+}
