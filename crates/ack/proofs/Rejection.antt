@@ -1,21 +1,24 @@
 -- The answer for a file, and the whole rejection. Assumes nothing.
 use mathlib.Core.Path.{_≡_, refl, sym, ap, _∙_}
+use mathlib.Core.Bool.{Bool, true, false, cond}
 use mathlib.Core.List.{List, [], _∷_, _++_}
 use Prim.Native.Nat.{ℕ, _+_, _*_, _≤_, _<_}
 use native.Mathlib.Omega.{arith}
 use borrow.Author.Tests.{lt-ltb, le-ltb}
-use lib.ListN.{length, drop, replicate, length-append}
+use lib.Dec.{eqb}
+use lib.ListN.{length, getD, drop, replicate, length-append}
 use lib.Seq.{sets-eq}
 use Rattle.paper.specs.declared.Answer.{Answer}
 use Rattle.paper.specs.declared.Answer.the-variants.{File, Refused}
 use Rattle.paper.specs.declared.Codes.{Codes}
+use Rattle.paper.specs.declared.Codes.the-variants.{C0823, C0822, C0840, C0822And0840}
 use Rattle.paper.specs.declared.Refusal.the-variants.{ShortOutput}
 use Rattle.paper.specs.declared.Verdict.the-variants.{Whole}
 use Rattle.paper.specs.Bytes.{Bytes, bytes, zeros, blanks}
 use Rattle.paper.specs.File.{laid, keyRecord, errorRecord, codeList, wholeErrors, rejection}
 use Rattle.record.proofs.Laws.{length-key, length-error}
 use Rattle.sets.proofs.Laws.{laid-append}
-use Rattle.ack.specs.Ties.{Given}
+use Rattle.ack.specs.Ties.{codesBy, codeRow, Given}
 
 -- n bytes of a file do not fit, or do and stand at the front
 module _ (file out : Bytes) (n : ℕ) (e : n ≡ length file) where
@@ -44,16 +47,33 @@ no-more : (l : Bytes) → l ≡ l ++ []
 no-more [] = refl
 no-more (x ∷ l) = ap (λ (m : Bytes). x ∷ m) (no-more l)
 
-module _ (out : Bytes) (codes : Codes) (c : ℕ) where
-  pub one-code : (o : Bytes) → codeList codes ≡ c ∷ [] → o ≡ laid out 120 (errorFor 1 c) → o ≡ laid out 120 (wholeErrors 1 (codeList codes))
-  one-code o e v = v ∙ ap (laid out 120) (no-more (errorFor 1 c)) ∙ ap (λ (cs : List ℕ). laid out 120 (wholeErrors 1 cs)) (sym e)
+-- the codes of a row, and their number
+pub row-codes : (codes : Codes) (row : List ℕ) (d : ℕ) → row ≡ codeRow codes → codesBy (getD row 0 d) (getD row 1 d) ≡ codeList codes
+row-codes codes row d e = ap (λ (l : List ℕ). codesBy (getD l 0 d) (getD l 1 d)) e ∙ by codes
+  where
+    by : (c : Codes) → codesBy (getD (codeRow c) 0 d) (getD (codeRow c) 1 d) ≡ codeList c
+    by C0823 = refl
+    by C0822 = refl
+    by C0840 = refl
+    by C0822And0840 = refl
 
-  pub two-codes : (d : ℕ) (o o' : Bytes) → codeList codes ≡ c ∷ d ∷ [] → o ≡ laid out 120 (errorFor 1 c) → o' ≡ laid o 240 (errorFor 2 d)
-      → o' ≡ laid out 120 (wholeErrors 1 (codeList codes))
-  two-codes d o o' e v w =
-      let h : 240 ≡ 120 + length (errorFor 1 c) = omega (arith, length-error (zeros 9) 1 (blanks 6) (blanks 6) (zeros 5) (zeros 7) c) in
-      w ∙ (λ i. laid (v i) (h i) (errorFor 2 d)) ∙ ap (laid (laid out 120 (errorFor 1 c)) (120 + length (errorFor 1 c))) (no-more (errorFor 2 d))
-      ∙ laid-append (errorFor 1 c) (errorFor 2 d ++ []) out 120 ∙ ap (λ (cs : List ℕ). laid out 120 (wholeErrors 1 cs)) (sym e)
+pub codes-count : (first second : ℕ) (cs : List ℕ) → codesBy first second ≡ cs → cond (eqb second 0) 1 2 ≡ length cs
+codes-count first second cs e = by (eqb second 0) ∙ ap length e
+  where
+    by : (b : Bool) → cond b 1 2 ≡ length (cond b (first ∷ []) (first ∷ second ∷ []))
+    by true = refl
+    by false = refl
+
+module _ (out o : Bytes) (first second : ℕ) (v : o ≡ laid out 120 (errorFor 1 first)) where
+  pub one-code : eqb second 0 ≡ true → o ≡ laid out 120 (wholeErrors 1 (codesBy first second))
+  one-code h = v ∙ ap (laid out 120) (no-more (errorFor 1 first)) ∙ ap (λ (b : Bool). laid out 120 (wholeErrors 1 (cond b (first ∷ []) (first ∷ second ∷ [])))) (sym h)
+
+  pub two-codes : (o' : Bytes) → eqb second 0 ≡ false → o' ≡ laid o 240 (errorFor 2 second) → o' ≡ laid out 120 (wholeErrors 1 (codesBy first second))
+  two-codes o' h w =
+      let k : 240 ≡ 120 + length (errorFor 1 first) = omega (arith, length-error (zeros 9) 1 (blanks 6) (blanks 6) (zeros 5) (zeros 7) first) in
+      w ∙ (λ i. laid (v i) (k i) (errorFor 2 second)) ∙ ap (laid (laid out 120 (errorFor 1 first)) (120 + length (errorFor 1 first))) (no-more (errorFor 2 second))
+      ∙ laid-append (errorFor 1 first) (errorFor 2 second ++ []) out 120
+      ∙ ap (λ (b : Bool). laid out 120 (wholeErrors 1 (cond b (first ∷ []) (first ∷ second ∷ [])))) (sym h)
 
 module _ (sequence : Bytes) (codes : Codes) where
   abbrev key : ℕ → Bytes

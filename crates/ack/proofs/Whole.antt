@@ -1,17 +1,21 @@
 -- The whole file. Assumes nothing.
 use mathlib.Core.Path.{_≡_, refl, sym, ap, _∙_, subst}
+use mathlib.Core.Bool.{true}
 use mathlib.Core.List.{List, [], _∷_, _++_, map, append-assoc}
 use Prim.Native.Nat.{ℕ, _+_, _-_, _*_, _≤_, _<_}
 use native.Mathlib.Omega.{arith}
 use lib.ListN.{length, take, drop, length-append, length-take, length-map}
+use lib.Dec.{leb}
 use lib.Seq.{take-add}
+use borrow.Author.Tests.{le-leb}
 use Rattle.paper.specs.declared.Layout.the-variants.{LTrana}
-use Rattle.paper.specs.Bytes.{Bytes, part}
+use Rattle.paper.specs.Bytes.{Bytes, any, part}
 use Rattle.paper.specs.Layouts.{through}
 use Rattle.paper.specs.Pack.{Lines}
 use Rattle.paper.specs.Walk.{records, twelve, docsOf}
-use Rattle.paper.specs.Judge.{Before, Case, Turn, turn, turns, after, asked, start}
-use Rattle.paper.specs.File.{laid, recapRecord, acceptedIn}
+use Rattle.paper.specs.Judge.{Before, Case, Turn, turn, turns, after, asked, start, known, letterOf, sightOf, findings}
+use Rattle.paper.specs.File.{laid, onAuth, bytesOf, setOf, recapRecord, acceptedIn}
+use Rattle.recordset.proofs.Laws.{length-setBy}
 use Rattle.record.proofs.Laws.{length-recap}
 use Rattle.sets.proofs.Laws.{laid-append}
 use Rattle.walk.specs.Parts.{Parts}
@@ -24,12 +28,30 @@ length-turns : (date : Bytes) (b : Before) (cs : List Case) → length (turns da
 length-turns date b [] = refl
 length-turns date b (c ∷ cs) = let ih = length-turns date (after (turn date b c)) cs in omega arith
 
+-- a set has a Key and at most 96 Errors
+set-most : (t : Turn) → length (setOf t) ≤ 11640
+unfolding setOf
+set-most t =
+    omega (arith, length-setBy (t .subject .doc .main) (bytesOf (t .subject .doc)) (known (t .subject .doc)) (t .date) (letterOf t) (sightOf t .whole) (take 96 (findings t)) (any onAuth (findings t)), length-take 96 (findings t))
+
+sets-most : (ts : List Turn) → length (setsIn ts) ≤ 11640 * length ts
+sets-most [] = omega arith
+sets-most (t ∷ ts) = omega (arith, length-append (setOf t) (setsIn ts), set-most t, sets-most ts)
+
 module _ (L : Lines) (date name t : Bytes) (n : ℕ) (b : Begins t n) where
   abbrev ts : List Turn
   ts = turnsIn L date t
 
   turns-count : length ts ≡ n
   turns-count = length-turns date start (map (asked L) (docsOf (records t))) ∙ length-map (docsOf (records t)) (asked L) ∙ sym (docs-count t n (b .sound))
+
+  pub sets-small : length (setsIn ts) ≤ 762839040
+  sets-small = omega (arith, sets-most ts, turns-count, b .few)
+
+  pub room-for : (room : ℕ) → 360 + 11640 * n ≤ room → true ≡ leb (360 + length (setsIn ts)) room
+  room-for room h =
+      let few : 360 + length (setsIn ts) ≤ room = omega (arith, sets-most ts, turns-count) in
+      sym (le-leb (360 + length (setsIn ts)) room few)
 
   abbrev recap : Bytes
   recap = recapRecord (drop (length t - 120) t) (twelve (take 120 t)) (acceptedIn ts) n name

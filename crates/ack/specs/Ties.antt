@@ -1,12 +1,13 @@
 -- What the functions below the entry points rest on, and what they give. Assumes nothing.
 use Prim.Native.Nat.{ℕ, _+_, _-_, _*_, _≤_}
-use mathlib.Core.Bool.{Bool, true, false, not}
-use mathlib.Core.List.{List, map}
+use mathlib.Core.Bool.{Bool, true, false, not, cond}
+use mathlib.Core.List.{List, [], _∷_, map}
 use mathlib.Core.Path.{_≡_}
 use lib.Dec.{eqb}
 use lib.ListN.{length, drop}
 use Rattle.paper.specs.declared.Answer.{Answer}
-use Rattle.paper.specs.declared.Codes.the-variants.{C0822, C0840, C0822And0840}
+use Rattle.paper.specs.declared.Codes.{Codes}
+use Rattle.paper.specs.declared.Codes.the-variants.{C0823, C0822, C0840, C0822And0840}
 use Rattle.paper.specs.Bytes.{Bytes, same, joined}
 use Rattle.paper.specs.Pack.{Lines, Blocks}
 use Rattle.paper.specs.Walk.{records, twelveAgain, parsedOf, docsOf}
@@ -22,6 +23,16 @@ use Rattle.judge.specs.Seen.{seenBy}
 use Rattle.ack.specs.declared.Done.{Done}
 use Rattle.ack.specs.declared.Route.{Route}
 use Rattle.ack.specs.declared.Route.the-variants.{Reject, Judge}
+
+-- one code or two, where the second is not 0
+abbrev pub codesBy : ℕ → ℕ → List ℕ
+codesBy first second = cond (eqb second 0) (first ∷ []) (first ∷ second ∷ [])
+
+abbrev pub codeRow : Codes → List ℕ
+codeRow C0823 = 823 ∷ 0 ∷ []
+codeRow C0822 = 822 ∷ 0 ∷ []
+codeRow C0840 = 840 ∷ 0 ∷ []
+codeRow C0822And0840 = 822 ∷ 840 ∷ []
 
 -- the blocks, lent one by one
 abbrev pub blocksBy : Bytes → Bytes → Bytes → Bytes → Bytes → Blocks

@@ -9,16 +9,18 @@ use paper::Refusal;
 use paper::Verdict;
 use walk::Outer;
 ghost use mathlib.Core.Path.{_≡_};
+ghost use mathlib.Core.Bool.{cond};
 ghost use mathlib.Core.List.{_++_};
 ghost use Prim.Native.Nat.{_+_, _*_, _≤_};
+ghost use lib.Dec.{eqb, leb};
 ghost use lib.ListN.{length};
 ghost use Rattle.paper.specs.Bytes.{bytes, bit, every, within, zeros, blanks};
 ghost use Rattle.paper.specs.Judge.{isA};
-ghost use Rattle.paper.specs.File.{laid, errorRecord, codeList, wholeErrors, rejection};
+ghost use Rattle.paper.specs.File.{laid, errorRecord, wholeErrors, rejection};
 ghost use Rattle.paper.specs.Answer.{fileName, prescribed, answer, refusalNumber, numberOf, lengthOf, coded, leftBy};
 ghost use Rattle.pack.specs.Shape.{shapeOf};
 ghost use Rattle.judge.specs.Judged.{searched};
-ghost use Rattle.ack.specs.Ties.{blocksBy, Begins, turnsIn, setsIn, judgedFile, fileBy, routeBy, routeOf, Written, Given};
+ghost use Rattle.ack.specs.Ties.{codesBy, codeRow, blocksBy, Begins, turnsIn, setsIn, judgedFile, fileBy, routeBy, routeOf, Written, Given};
 
 // Where the record sets end, and how many documents are accepted.
 struct Done {
@@ -34,14 +36,15 @@ enum Route {
 
 // THE WHOLE REJECTION
 
-fn errors_of(codes: Codes) -> u32
-    ensures { λ r. ⌜ (r ≡ length (codeList codes)) × (r ≤ 2) ⌝ }
+// The codes in their order; 0 for no second one.
+fn codes_of(codes: Codes) -> [u32; 2]
+    ensures { λ r. ⌜ r ≡ codeRow codes ⌝ }
 {
     match codes {
-        Codes::C0823 => 1,
-        Codes::C0822 => 1,
-        Codes::C0840 => 1,
-        Codes::C0822And0840 => 2,
+        Codes::C0823 => [823, 0],
+        Codes::C0822 => [822, 0],
+        Codes::C0840 => [840, 0],
+        Codes::C0822And0840 => [822, 840],
     }
 }
 
@@ -61,17 +64,19 @@ fn put_code(out: &mut [u8], n: u32, code: u32)
     sets::put(out, 120 * n as usize, &e)
 }
 
-fn put_codes(out: &mut [u8], codes: Codes)
-    ensures { λ _. ⌜ now (out .exit) ≡ laid (now (out .entry)) 120 (wholeErrors 1 (codeList codes)) ⌝ }
+fn errors_of(second: u32) -> u32
+    ensures { λ r. ⌜ (r ≡ cond (eqb second 0) 1 2) × (r ≤ 2) ⌝ }
 {
-    match codes {
-        Codes::C0823 => put_code(out, 1, 823),
-        Codes::C0822 => put_code(out, 1, 822),
-        Codes::C0840 => put_code(out, 1, 840),
-        Codes::C0822And0840 => {
-            put_code(out, 1, 822);
-            put_code(out, 2, 840)
-        }
+    if second == 0 { 1 } else { 2 }
+}
+
+// An Error record a code.
+fn put_codes(out: &mut [u8], first: u32, second: u32)
+    ensures { λ _. ⌜ now (out .exit) ≡ laid (now (out .entry)) 120 (wholeErrors 1 (codesBy first second)) ⌝ }
+{
+    put_code(out, 1, first);
+    if second != 0 {
+        put_code(out, 2, second)
     }
 }
 
@@ -79,7 +84,10 @@ fn put_codes(out: &mut [u8], codes: Codes)
 fn reject(sequence: &[u8], codes: Codes, out: &mut [u8]) -> Answer
     ensures { λ r. ⌜ Given (rejection (now (sequence .entry)) codes) (now (out .entry)) (now (out .exit)) r ⌝ }
 {
-    let errors = errors_of(codes);
+    let row = codes_of(codes);
+    let first = row[0];
+    let second = row[1];
+    let errors = errors_of(second);
     let size = 120 + 120 * errors as usize;
     if out.len() < size {
         return Answer::Refused(Refusal::ShortOutput);
@@ -96,7 +104,7 @@ fn reject(sequence: &[u8], codes: Codes, out: &mut [u8]) -> Answer
         b"               ",
     );
     sets::put(out, 0, &key);
-    put_codes(out, codes);
+    put_codes(out, first, second);
     Answer::File(size)
 }
 
@@ -150,6 +158,26 @@ fn need(
     size
 }
 
+// The file goes into so many bytes: the most that n documents can need, or else what these do.
+fn has_room(
+    t: &[u8],
+    n: usize,
+    taxpayers: &[u8],
+    banks: &[u8],
+    filed: &[u8],
+    states: &[u8],
+    date: &[u8],
+    room: usize,
+) -> bool
+    requires { ⌜ Begins (now t) n ⌝ }
+    ensures { λ r. ⌜ r ≡ leb (360 + length (setsIn (turnsIn (searched (now (taxpayers .entry)) (now (banks .entry)) (now (filed .entry)) (now (states .entry))) (now (date .entry)) (now (t .entry))))) room ⌝ }
+{
+    if 360 + 11640 * n <= room {
+        return true;
+    }
+    360 + need(t, n, taxpayers, banks, filed, states, date) <= room
+}
+
 // The record sets of all documents, written after the 240 bytes of TRANA and TRANB.
 fn write_sets(
     t: &[u8],
@@ -183,7 +211,7 @@ fn write_sets(
     Done { to, accepted }
 }
 
-// TRANA and TRANB, the record sets and the Recap, written at the front of out.
+// TRANA and TRANB, the record sets and the Recap, written at the front of out; and their length.
 fn put_file(
     t: &[u8],
     n: usize,
@@ -194,8 +222,9 @@ fn put_file(
     date: &[u8],
     name: &[u8],
     out: &mut [u8],
-)
+) -> usize
     requires { ⌜ Begins (now t) n × (length (judgedFile (searched (now taxpayers) (now banks) (now filed) (now states)) (now date) (now name) (now t)) ≤ length (now out)) ⌝ }
+    ensures { λ r. ⌜ r ≡ length (judgedFile (searched (now (taxpayers .entry)) (now (banks .entry)) (now (filed .entry)) (now (states .entry))) (now (date .entry)) (now (name .entry)) (now (t .entry))) ⌝ }
     ensures { λ _. ⌜ now (out .exit) ≡ laid (now (out .entry)) 0 (judgedFile (searched (now (taxpayers .entry)) (now (banks .entry)) (now (filed .entry)) (now (states .entry))) (now (date .entry)) (now (name .entry)) (now (t .entry))) ⌝ }
 {
     sets::put(out, 0, &t[0..240]);
@@ -204,10 +233,11 @@ fn put_file(
     let from = t.len() - 120;
     let twelve = layout::through(Layout::LTrana, 60, 80, &t[0..120]);
     let recap = record::recap_record(&t[from..], twelve, done.accepted as u32, n as u32, name);
-    sets::put(out, to, &recap)
+    sets::put(out, to, &recap);
+    to + 120
 }
 
-// The file of a transmission that is not rejected whole. Its length is known before a byte is written.
+// The file of a transmission that is not rejected whole. That it fits is known before a byte is written.
 fn judge_all(
     t: &[u8],
     n: usize,
@@ -222,11 +252,10 @@ fn judge_all(
     requires { ⌜ Begins (now t) n ⌝ }
     ensures { λ r. ⌜ Given (judgedFile (searched (now (taxpayers .entry)) (now (banks .entry)) (now (filed .entry)) (now (states .entry))) (now (date .entry)) (now (name .entry)) (now (t .entry))) (now (out .entry)) (now (out .exit)) r ⌝ }
 {
-    let whole = 360 + need(t, n, taxpayers, banks, filed, states, date);
-    if out.len() < whole {
+    if !has_room(t, n, taxpayers, banks, filed, states, date, out.len()) {
         return Answer::Refused(Refusal::ShortOutput);
     }
-    put_file(t, n, taxpayers, banks, filed, states, date, name, out);
+    let whole = put_file(t, n, taxpayers, banks, filed, states, date, name, out);
     Answer::File(whole)
 }
 

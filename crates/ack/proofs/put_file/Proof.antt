@@ -6,7 +6,7 @@ use denote.Ref.{now}
 use Rattle.paper.specs.Pack.{Lines}
 use Rattle.judge.specs.Judged.{searched}
 use Rattle.ack.specs.Ties.{turnsIn, setsIn}
-use Rattle.ack.proofs.Whole.{file-size, file-laid}
+use Rattle.ack.proofs.Whole.{sets-small, file-size, file-laid}
 use borrow.Author.Needs.{needs}
 use Rattle.ack.proofs.put_file.Statement.{statement}
 use Rattle.ack.proofs.put_file.Tie as tie
@@ -40,6 +40,10 @@ put-file-spec =
     (λ c κs. search needs)
     (λ c. search needs)
     (λ c κs. search needs)
+    (λ c. let w = c .before .before .before .before .before .before .before .before .before .before .before .before in
+    let s = w .before .before .before .before .before .before .before .before .before .before .before .before .before .before .before in
+    let f = sets-small (lines s) (now (s .args .date)) (now (s .args .name)) (now (s .args .t)) (s .args .n) (s .pre .0) in
+    record { fits = omega (arith, f, w .write-sets .ensures .ends) })
     (λ c. search needs)
     (λ c.
     let r = c .before .before .before .before .before in
@@ -47,5 +51,8 @@ put-file-spec =
     let u = w .before .before .before .before in
     let s = u .before .before .before .before .before .before .before .before .before .before .before in
     let a = s .args in
-    file-laid (lines s) (now (a .date)) (now (a .name)) (now (a .t)) (a .n) (s .pre .0) (now (a .out)) (u .put .last .0) (w .write-sets .last .1 .1 .1 .1 .1 .1 .1 .0) (c .before .before .put2 .last .0) (r .recap-record .result) (now (r .before .before .before .through .result)) (w .write-sets .result)
-    (u .put .ensures) (w .write-sets .ensures) (r .before .before .before .through .ensures) (r .recap-record .ensures) (c .before .before .put2 .ensures)))
+    let f = file-size (lines s) (now (a .date)) (now (a .name)) (now (a .t)) (a .n) (s .pre .0) in (
+      omega (arith, f, w .write-sets .ensures .ends),
+      file-laid (lines s) (now (a .date)) (now (a .name)) (now (a .t)) (a .n) (s .pre .0) (now (a .out)) (u .put .last .0) (w .write-sets .last .1 .1 .1 .1 .1 .1 .1 .0) (c .before .before .put2 .last .0) (r .recap-record .result) (now (r .before .before .before .through .result)) (w .write-sets .result)
+          (u .put .ensures) (w .write-sets .ensures) (r .before .before .before .through .ensures) (r .recap-record .ensures) (c .before .before .put2 .ensures),
+    )))

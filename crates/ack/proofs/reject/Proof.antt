@@ -1,8 +1,18 @@
-use Rattle.ack.proofs.Rejection.{refuse, give, rejection-size, rejection-laid}
+use mathlib.Core.Path.{_≡_, ap, _∙_}
+use lib.ListN.{length, getD}
 use denote.Ref.{now}
+use Rattle.paper.specs.File.{codeList, laid, wholeErrors}
+use Rattle.ack.specs.Ties.{codesBy}
+use Rattle.ack.proofs.Rejection.{row-codes, codes-count, refuse, give, rejection-size, rejection-laid}
 use borrow.Author.Needs.{needs}
 use Rattle.ack.proofs.reject.Statement.{statement}
 use Rattle.ack.proofs.reject.Tie as tie
+
+-- the number of the codes
+counted : (c : tie.After-errors-of) → c .errors-of .result ≡ length (codeList (c .before .before .before .before .args .codes))
+counted c =
+    let r = c .before .codes-of in
+    c .errors-of .ensures .0 ∙ codes-count (getD (r .result) 0 0) (getD (r .result) 1 0) _ (row-codes (c .before .before .before .before .args .codes) (r .result) 0 (r .ensures))
 
 pub reject-spec : {M : Type 1} → statement M
 reject-spec =
@@ -11,10 +21,13 @@ reject-spec =
     (λ c κs. search needs)
     (λ c. search needs)
     (λ c. search needs)
+    (λ c κs. search needs)
+    (λ c. search needs)
+    (λ c. search needs)
     (λ c. search needs)
     (λ c.
-    let a = c .before .before .before .before .args in
-    refuse _ (now (a .out)) _ (rejection-size (now (a .sequence)) (a .codes) (c .before .errors-of .result) (c .before .errors-of .ensures .0)) (c .if1 .taken))
+    let a = c .before .before .before .before .before .args in
+    refuse _ (now (a .out)) _ (rejection-size (now (a .sequence)) (a .codes) (c .before .errors-of .result) (counted (c .before))) (c .if1 .taken))
     (λ c. search needs)
     (λ c. search needs)
     (λ c. search needs)
@@ -29,6 +42,8 @@ reject-spec =
     let u = e .before .before .before .before in
     let k = u .before .before .before in
     let n = k .before .before .before .before .before .before in
-    let a = n .before .before .before .args in
-    give _ (now (a .out)) _ (rejection-size (now (a .sequence)) (a .codes) (n .errors-of .result) (n .errors-of .ensures .0)) (e .put-codes .last .0) (k .before .before .before .before .before .if1 .left)
-    (rejection-laid (now (a .sequence)) (a .codes) (n .errors-of .result) (k .key-record .result) (now (a .out)) (u .put .last .0) (e .put-codes .last .0) (n .errors-of .ensures .0) (k .key-record .ensures) (u .put .ensures) (e .put-codes .ensures))))
+    let r = n .before .codes-of in
+    let a = n .before .before .before .before .args in
+    give _ (now (a .out)) _ (rejection-size (now (a .sequence)) (a .codes) (n .errors-of .result) (counted n)) (e .put-codes .last .0) (k .before .before .before .before .before .if1 .left)
+    (rejection-laid (now (a .sequence)) (a .codes) (n .errors-of .result) (k .key-record .result) (now (a .out)) (u .put .last .0) (e .put-codes .last .0) (counted n) (k .key-record .ensures) (u .put .ensures)
+    (e .put-codes .ensures ∙ ap (λ cs. laid (u .put .last .0) 120 (wholeErrors 1 cs)) (row-codes (a .codes) (r .result) 0 (r .ensures))))))
