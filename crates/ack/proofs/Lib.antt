@@ -1,5 +1,6 @@
 pub mod Rejection
 pub mod Onward
 pub mod Tour
+pub mod Room
 pub mod Whole
 pub mod Ways

@@ -2,41 +2,32 @@
 use mathlib.Core.Path.{_≡_, refl, sym, ap, _∙_, subst}
 use mathlib.Core.Bool.{true}
 use mathlib.Core.List.{List, [], _∷_, _++_, map, append-assoc}
-use Prim.Native.Nat.{ℕ, _+_, _-_, _*_, _≤_, _<_}
+use Prim.Native.Nat.{ℕ, _+_, _-_, _*_, _/_, _≤_, _<_}
 use native.Mathlib.Omega.{arith}
 use lib.ListN.{length, take, drop, length-append, length-take, length-map}
 use lib.Dec.{leb}
 use lib.Seq.{take-add}
 use borrow.Author.Tests.{le-leb}
 use Rattle.paper.specs.declared.Layout.the-variants.{LTrana}
-use Rattle.paper.specs.Bytes.{Bytes, any, part}
+use Rattle.paper.specs.Bytes.{Bytes, count, part}
 use Rattle.paper.specs.Layouts.{through}
 use Rattle.paper.specs.Pack.{Lines}
 use Rattle.paper.specs.Walk.{records, twelve, docsOf}
-use Rattle.paper.specs.Judge.{Before, Case, Turn, turn, turns, after, asked, start, known, letterOf, sightOf, findings}
-use Rattle.paper.specs.File.{laid, onAuth, bytesOf, setOf, recapRecord, acceptedIn}
-use Rattle.recordset.proofs.Laws.{length-setBy}
+use Rattle.paper.specs.Judge.{Before, Case, Turn, turn, turns, after, asked, start, known}
+use Rattle.paper.specs.File.{laid, recapRecord, acceptedIn}
 use Rattle.record.proofs.Laws.{length-recap}
 use Rattle.sets.proofs.Laws.{laid-append}
 use Rattle.walk.specs.Parts.{Parts}
 use Rattle.walk.proofs.Laws.{tail}
+use Rattle.walk.proofs.Docs.{docs-few}
 use Rattle.ack.specs.declared.Done.{Done}
 use Rattle.ack.specs.Ties.{Begins, turnsIn, setsIn, judgedFile, Written}
 use Rattle.ack.proofs.Tour.{parts, docs-count}
+use Rattle.ack.proofs.Room.{docs-weigh, sets-most, most-of}
 
 length-turns : (date : Bytes) (b : Before) (cs : List Case) → length (turns date b cs) ≡ length cs
 length-turns date b [] = refl
 length-turns date b (c ∷ cs) = let ih = length-turns date (after (turn date b c)) cs in omega arith
-
--- a set has a Key and at most 96 Errors
-set-most : (t : Turn) → length (setOf t) ≤ 11640
-unfolding setOf
-set-most t =
-    omega (arith, length-setBy (t .subject .doc .main) (bytesOf (t .subject .doc)) (known (t .subject .doc)) (t .date) (letterOf t) (sightOf t .whole) (take 96 (findings t)) (any onAuth (findings t)), length-take 96 (findings t))
-
-sets-most : (ts : List Turn) → length (setsIn ts) ≤ 11640 * length ts
-sets-most [] = omega arith
-sets-most (t ∷ ts) = omega (arith, length-append (setOf t) (setsIn ts), set-most t, sets-most ts)
 
 module _ (L : Lines) (date name t : Bytes) (n : ℕ) (b : Begins t n) where
   abbrev ts : List Turn
@@ -45,13 +36,24 @@ module _ (L : Lines) (date name t : Bytes) (n : ℕ) (b : Begins t n) where
   turns-count : length ts ≡ n
   turns-count = length-turns date start (map (asked L) (docsOf (records t))) ∙ length-map (docsOf (records t)) (asked L) ∙ sym (docs-count t n (b .sound))
 
-  pub sets-small : length (setsIn ts) ≤ 762839040
-  sets-small = omega (arith, sets-most ts, turns-count, b .few)
+  sets-within : length (setsIn ts) ≤ 240 * n + 11400 * ((length t - 43 * n) / 341)
+  sets-within =
+      let c = docs-count t n (b .sound) in
+      let m = most-of (length t) (length (docsOf (records t))) (count known (docsOf (records t))) (docs-weigh t) in
+      omega (arith, sets-most L date start (records t), m, ap (λ (k : ℕ). 240 * k + 11400 * ((length t - 43 * k) / 341)) c)
 
-  pub room-for : (room : ℕ) → 360 + 11640 * n ≤ room → true ≡ leb (360 + length (setsIn ts)) room
+  pub sets-small : length (setsIn ts) ≤ 762839040
+  sets-small =
+      let f : count known (docsOf (records t)) ≤ 65536 = omega (arith, docs-weigh t, b .short) in
+      omega (arith, sets-most L date start (records t), docs-count t n (b .sound), b .few)
+
+  pub room-for : (room : ℕ) → 360 + 240 * n + 11400 * ((length t - 43 * n) / 341) ≤ room → true ≡ leb (360 + length (setsIn ts)) room
   room-for room h =
-      let few : 360 + length (setsIn ts) ≤ room = omega (arith, sets-most ts, turns-count) in
+      let few : 360 + length (setsIn ts) ≤ room = omega (arith, sets-within) in
       sym (le-leb (360 + length (setsIn ts)) room few)
+
+  pub docs-fit : 43 * n ≤ length t
+  docs-fit = omega (arith, docs-count t n (b .sound), docs-few t)
 
   abbrev recap : Bytes
   recap = recapRecord (drop (length t - 120) t) (twelve (take 120 t)) (acceptedIn ts) n name
