@@ -42,6 +42,25 @@ every-yes p s i v h = sym (v ∙ every-end p s i h)
 
 pub ruleset every-loop = (every-again, every-no, every-yes)
 
+and-step : (b x y : Bool) → (b && (x && y)) ≡ ((b && x) && y)
+and-step true x y = refl
+and-step false x y = refl
+
+and-true : (b : Bool) → (b && true) ≡ b
+and-true true = refl
+and-true false = refl
+
+-- The two answers of a loop that joins what a call says of each byte; b is what the bytes so far say, r the call's result
+pub all-again : (p : ℕ → Bool) (s : List ℕ) (i : ℕ) (b r : Bool) → every p s ≡ (b && every p (drop i s)) → i < length s → r ≡ p (getD s i 0) → every p s ≡ ((b && r) && every p (drop (i + 1) s))
+all-again p s i b r v h e =
+    v ∙ ap (λ (l : List ℕ). b && every p l) (next s i h) ∙ and-step b (p (getD s i 0)) (every p (drop (i + 1) s))
+    ∙ ap (λ (x : Bool). (b && x) && every p (drop (i + 1) s)) (sym e)
+
+pub all-done : (p : ℕ → Bool) (s : List ℕ) (i : ℕ) (b : Bool) → every p s ≡ (b && every p (drop i s)) → length s ≤ i → b ≡ every p s
+all-done p s i b v h = sym (v ∙ ap (λ (x : Bool). b && x) (every-end p s i h) ∙ and-true b)
+
+pub ruleset all-loop = (all-again, all-done)
+
 -- The answers of a loop that reads a list from the front with a state; r is the state after the byte at i
 pub run-again : {A : Type 0} (f : A → ℕ → A) (s : List ℕ) (i : ℕ) (a₀ a r : A) → run f a₀ s ≡ run f a (drop i s) → i < length s → r ≡ f a (getD s i 0) → run f a₀ s ≡ run f r (drop (i + 1) s)
 run-again f s i a₀ a r v h e = v ∙ ap (run f a) (next s i h) ∙ ap (λ b. run f b (drop (i + 1) s)) (sym e)

@@ -95,14 +95,13 @@ fn is_nine(x: u8) -> bool
 pub fn digits(s: &[u8]) -> bool
     ensures { λ r. ⌜ r ≡ digits (now (s .entry)) ⌝ }
 {
+    let mut all = true;
     let mut i = 0;
     while i < s.len() {
-        if !is_digit(s[i]) {
-            return false;
-        }
+        all = all & is_digit(s[i]);
         i += 1;
     }
-    true
+    all
 }
 
 pub fn letters(s: &[u8]) -> bool
