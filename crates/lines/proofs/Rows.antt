@@ -4,17 +4,17 @@ use mathlib.Core.Path.{_≡_, refl, sym, ap, _∙_}
 use mathlib.Core.Bool.{Bool, true, false, _&&_, _||_, not, cond}
 use mathlib.Core.List.{List, [], _∷_}
 use Prim.Native.Nat.{ℕ, zero, suc, _+_, _-_, _*_, _/_, _%_, _≤_, _<_}
-use native.Mathlib.Nat.{suc-mul, not-suc-le-zero}
+use native.Mathlib.Nat.{suc-mul, not-suc-le-zero, div-add-mod'}
 use native.Mathlib.Numerals.{sub-one}
 use native.Mathlib.Omega.{arith}
 use lib.Dec.{eqb}
-use lib.ListN.{length, take, drop}
-use lib.Seq.{drop-drop}
+use lib.ListN.{length, take, drop, length-drop}
+use lib.Seq.{drop-drop, take-take}
 use borrow.Author.Tests.{eq-eqb, ne-eqb, not-true, not-false}
-use Rattle.paper.specs.Bytes.{Bytes, every, any, before}
-use Rattle.paper.specs.Pack.{widthOf, riseOf, goodLine, rows, linesIn, risesFrom, rises, goodBody}
+use Rattle.paper.specs.Bytes.{Bytes, every, any, before, isDigit, digits}
+use Rattle.paper.specs.Pack.{widthOf, riseOf, taxpayerLine, bankLine, stateLine, goodLine, rows, linesIn, rises, goodBody}
 use Rattle.text.proofs.Laws.{piece-whole}
-use Rattle.lines.specs.Follow.{follows, goodFrom, goodRows}
+use Rattle.lines.specs.Body.{goodRows}
 
 -- so many bytes less for one line less
 pub row-less : (m w : ℕ) → 0 < m → m * w ≡ (m - 1) * w + w
@@ -61,67 +61,115 @@ any-no p w m s v e h = sym (e ∙ ap (any p) (no-rows m w s h))
 
 pub ruleset any-line = (any-again, any-yes, any-no)
 
--- The loop that holds each line against the next; r is the result at the lines `&s[at..at + w]` and `&s[at + w..at + w + w]`
-module _ (k w m at : ℕ) (s : Bytes) (v r : Bool) (e : v ≡ goodFrom k (take w (drop at s)) (rows m w (drop (at + w) s))) (h : 0 < m)
-    (q : r ≡ follows k (take (at + w - at) (drop at s)) (take (at + w + w - (at + w)) (drop (at + w) s))) where
-  from-split : v ≡ (r && goodFrom k (take w (drop (at + w) s)) (rows (m - 1) w (drop (at + w + w) s)))
-  from-split =
-      e ∙ ap (goodFrom k (take w (drop at s))) (rows-next m w (at + w) s h)
-      ∙ ap (λ (b : Bool). b && goodFrom k (take w (drop (at + w) s)) (rows (m - 1) w (drop (at + w + w) s)))
-      ((λ i. follows k (sym (piece-whole s at w) i) (sym (piece-whole s (at + w) w) i)) ∙ sym q)
+-- A loop that tests each line and returns false at the first that fails; v, r and the line as above
+module _ (p : Bytes → Bool) (w m at : ℕ) (s : Bytes) (v r : Bool) (e : v ≡ every p (rows m w (drop at s))) (h : 0 < m) (q : r ≡ p (take (at + w - at) (drop at s))) where
+  every-split : v ≡ (r && every p (rows (m - 1) w (drop (at + w) s)))
+  every-split =
+      e ∙ ap (every p) (rows-next m w at s h)
+      ∙ ap (λ (b : Bool). b && every p (rows (m - 1) w (drop (at + w) s))) (ap p (sym (piece-whole s at w)) ∙ sym q)
 
-  pub from-again : not r ≡ false → v ≡ goodFrom k (take w (drop (at + w) s)) (rows (m - 1) w (drop (at + w + w) s))
-  from-again t = from-split ∙ ap (λ (b : Bool). b && goodFrom k (take w (drop (at + w) s)) (rows (m - 1) w (drop (at + w + w) s))) (not-false r t)
+  pub every-again : not r ≡ false → v ≡ every p (rows (m - 1) w (drop (at + w) s))
+  every-again t = every-split ∙ ap (λ (b : Bool). b && every p (rows (m - 1) w (drop (at + w) s))) (not-false r t)
 
-  pub from-no : not r ≡ true → false ≡ v
-  from-no t = sym (from-split ∙ ap (λ (b : Bool). b && goodFrom k (take w (drop (at + w) s)) (rows (m - 1) w (drop (at + w + w) s))) (not-true r t))
+  pub every-no : not r ≡ true → false ≡ v
+  every-no t = sym (every-split ∙ ap (λ (b : Bool). b && every p (rows (m - 1) w (drop (at + w) s))) (not-true r t))
 
-pub from-yes : (k w m : ℕ) (l s : Bytes) (v : Bool) → v ≡ goodFrom k l (rows m w s) → m ≤ 0 → true ≡ v
-from-yes k w m l s v e h = sym (e ∙ ap (goodFrom k l) (no-rows m w s h))
+pub every-yes : (p : Bytes → Bool) (w m : ℕ) (s : Bytes) (v : Bool) → v ≡ every p (rows m w s) → m ≤ 0 → true ≡ v
+every-yes p w m s v e h = sym (e ∙ ap (every p) (no-rows m w s h))
 
--- its start
-module _ (k w n : ℕ) (s : Bytes) where
-  pub rows-none : n ≡ 0 → true ≡ goodRows k (rows n w s)
-  rows-none h = sym (ap (λ (m : ℕ). goodRows k (rows m w s)) h)
+pub ruleset every-line = (every-again, every-no, every-yes)
 
-  module _ (h : n ≡ 0 → ⊥) (r : Bool) (l : Bytes) (f : l ≡ take w (drop 0 s)) (q : r ≡ goodLine k l) where
-    first-split : goodRows k (rows n w s) ≡ (r && goodFrom k (take w (drop 0 s)) (rows (n - 1) w (drop (0 + w) s)))
-    first-split =
-        let some : 0 < n = omega arith in
-        ap (goodRows k) (rows-next n w 0 s some)
-        ∙ ap (λ (b : Bool). b && goodFrom k (take w (drop 0 s)) (rows (n - 1) w (drop (0 + w) s))) (sym (q ∙ ap (goodLine k) f))
+-- A loop that holds the key of each line against the next one's; r is the result at the keys `&s[at..at + k]` and `&s[at + w..at + w + k]`
+module _ (k w m at : ℕ) (s : Bytes) (v r : Bool) (e : v ≡ rises k (rows m w (drop at s))) (h : 1 < m) (g : k ≤ w)
+    (q : r ≡ before (take (at + k - at) (drop at s)) (take (at + w + k - (at + w)) (drop (at + w) s))) where
+  key-of : (a : ℕ) → take k (take w (drop a s)) ≡ take (a + k - a) (drop a s)
+  key-of a = take-take k w (drop a s) g ∙ sym (piece-whole s a k)
 
-    pub first-no : not r ≡ true → false ≡ goodRows k (rows n w s)
-    first-no t = sym (first-split ∙ ap (λ (b : Bool). b && goodFrom k (take w (drop 0 s)) (rows (n - 1) w (drop (0 + w) s))) (not-true r t))
+  rise-split : v ≡ (r && rises k (rows (m - 1) w (drop (at + w) s)))
+  rise-split =
+      let two : rows (m - 1) w (drop (at + w) s) ≡ take w (drop (at + w) s) ∷ rows (m - 1 - 1) w (drop (at + w + w) s) = rows-next (m - 1) w (at + w) s (omega arith) in
+      e ∙ ap (rises k) (rows-next m w at s (omega arith) ∙ ap (λ (ls : List Bytes). take w (drop at s) ∷ ls) two)
+      ∙ (λ i. before (key-of at i) (key-of (at + w) i) && rises k (sym two i))
+      ∙ ap (λ (b : Bool). b && rises k (rows (m - 1) w (drop (at + w) s))) (sym q)
 
-    pub first-yes : not r ≡ false → goodRows k (rows n w s) ≡ goodFrom k (take w (drop 0 s)) (rows (n - 1) w (drop (0 + w) s))
-    first-yes t = first-split ∙ ap (λ (b : Bool). b && goodFrom k (take w (drop 0 s)) (rows (n - 1) w (drop (0 + w) s))) (not-false r t)
+  pub rise-again : not r ≡ false → v ≡ rises k (rows (m - 1) w (drop (at + w) s))
+  rise-again t = rise-split ∙ ap (λ (b : Bool). b && rises k (rows (m - 1) w (drop (at + w) s))) (not-false r t)
 
-pub ruleset first-line = (rows-none, first-no, first-yes)
+  pub rise-no : not r ≡ true → false ≡ v
+  rise-no t = sym (rise-split ∙ ap (λ (b : Bool). b && rises k (rows (m - 1) w (drop (at + w) s))) (not-true r t))
 
-pub ruleset each-line = (from-again, from-no, from-yes)
+pub rise-yes : (k w m : ℕ) (s : Bytes) (v : Bool) → v ≡ rises k (rows m w s) → m ≤ 1 → true ≡ v
+rise-yes k w zero s v e h = sym e
+rise-yes k w (suc zero) s v e h = sym e
+rise-yes k w (suc (suc m)) s v e h = absurd (omega arith)
 
--- One reading tests what the definition tests in two
-crossed : (a b c d : Bool) → ((a && b) && (c && d)) ≡ ((a && c) && (b && d))
-crossed true true c d = refl
-crossed true false true d = refl
-crossed true false false d = refl
-crossed false b c d = refl
+pub ruleset rise-line = (rise-again, rise-no, rise-yes)
 
-from-is : (k : ℕ) (l : Bytes) (ls : List Bytes) → goodFrom k l ls ≡ (every (goodLine k) ls && risesFrom (riseOf k) l ls)
-unfolding follows
-from-is k l [] = refl
-from-is k l (m ∷ ls) =
-    ap (λ (b : Bool). (goodLine k m && before (take (riseOf k) l) (take (riseOf k) m)) && b) (from-is k m ls)
-    ∙ crossed (goodLine k m) (before (take (riseOf k) l) (take (riseOf k) m)) (every (goodLine k) ls) (risesFrom (riseOf k) m ls)
-
+-- lines of digits, as one text of digits
 and-assoc : (a b c : Bool) → (a && (b && c)) ≡ ((a && b) && c)
 and-assoc true b c = refl
 and-assoc false b c = refl
 
-pub rows-are : (k : ℕ) (ls : List Bytes) → goodRows k ls ≡ (every (goodLine k) ls && rises (riseOf k) ls)
-rows-are k [] = refl
-rows-are k (l ∷ ls) = ap (λ (b : Bool). goodLine k l && b) (from-is k l ls) ∙ and-assoc (goodLine k l) (every (goodLine k) ls) (risesFrom (riseOf k) l ls)
+digits-split : (w : ℕ) (s : Bytes) → digits s ≡ (digits (take w s) && digits (drop w s))
+digits-split zero s = refl
+digits-split (suc w) [] = refl
+digits-split (suc w) (x ∷ s) = ap (λ (b : Bool). isDigit x && b) (digits-split w s) ∙ and-assoc (isDigit x) (digits (take w s)) (digits (drop w s))
+
+pub digits-rows : (n w : ℕ) (s : Bytes) → n * w ≡ length s → digits s ≡ every digits (rows n w s)
+digits-rows zero w [] e = refl
+digits-rows zero w (x ∷ s) e = absurd (omega arith)
+digits-rows (suc n) w s e =
+    let less : suc n * w ≡ n * w + w = suc-mul n w in
+    digits-split w s ∙ ap (λ (b : Bool). digits (take w s) && b) (digits-rows n w (drop w s) (omega (arith, length-drop w s)))
+
+-- a kind, with the width of its lines, the width of what ascends, and the test on a line
+pub record Kind (k w r : ℕ) (p : Bytes → Bool) : Type 0 where
+  pub width : widthOf k ≡ w
+  pub rise : riseOf k ≡ r
+  pub line : goodLine k ≡ p
+
+pub kind-1 : (k : ℕ) → k ≡ 1 → Kind k 33 9 taxpayerLine
+unfolding widthOf riseOf goodLine
+kind-1 k e = rw e (record { width = refl; rise = refl; line = refl })
+
+pub kind-2 : (k : ℕ) → k ≡ 2 → Kind k 10 9 bankLine
+unfolding widthOf riseOf goodLine
+kind-2 k e = rw e (record { width = refl; rise = refl; line = refl })
+
+pub kind-3 : (k : ℕ) → k ≡ 3 → Kind k 9 9 digits
+unfolding widthOf riseOf goodLine
+kind-3 k e = rw e (record { width = refl; rise = refl; line = refl })
+
+pub kind-4 : (k : ℕ) → k ≡ 4 → Kind k 8 8 stateLine
+unfolding widthOf riseOf goodLine
+kind-4 k e = rw e (record { width = refl; rise = refl; line = refl })
+
+pub kind-5 : (k : ℕ) → (((Unit {0} × (k ≡ 1 → ⊥)) × (k ≡ 2 → ⊥)) × (k ≡ 3 → ⊥)) × (k ≡ 4 → ⊥) → Kind k 12 12 digits
+unfolding widthOf riseOf goodLine
+kind-5 k ((((_, a), b), c), d) =
+    let h : (l : Bytes) → goodLine k l ≡ digits l = λ l. simp (ne-eqb k 1 a, ne-eqb k 2 b, ne-eqb k 4 d) in
+    record {
+      width = simp (ne-eqb k 1 a, ne-eqb k 2 b, ne-eqb k 3 c, ne-eqb k 4 d);
+      rise = simp (ne-eqb k 1 a, ne-eqb k 2 b, ne-eqb k 3 c, ne-eqb k 4 d);
+      line = λ i l. h l i;
+    }
+
+-- the tests on the n lines of a block
+module _ (k w r : ℕ) (p : Bytes → Bool) (of : Kind k w r p) (n : ℕ) (s : Bytes) (f : n * widthOf k ≡ length s) where
+  filled : n * w ≡ length s
+  filled = ap (λ (a : ℕ). n * a) (sym (of .width)) ∙ f
+
+  pub rows-fit : n * w ≤ length s
+  rows-fit = omega (arith, filled)
+
+  pub rows-good : (x y : Bool) → x ≡ every p (rows n w s) → y ≡ rises r (rows n w s) → (x && y) ≡ goodRows k (rows n (widthOf k) s)
+  rows-good x y e g = (λ i. e i && g i) ∙ (λ i. every (sym (of .line) i) (rows n (sym (of .width) i) s) && rises (sym (of .rise) i) (rows n (sym (of .width) i) s))
+
+pub digits-good : (k w r : ℕ) → Kind k w r digits → (n : ℕ) (s : Bytes) → n * widthOf k ≡ length s
+    → (x y : Bool) → x ≡ digits s → y ≡ rises r (rows n w s) → (x && y) ≡ goodRows k (rows n (widthOf k) s)
+digits-good k w r of n s f x y e g = rows-good k w r digits of n s f x y (e ∙ digits-rows n w s (filled k w r digits of n s f)) g
+
+pub ruleset kinds = (kind-1, kind-2, kind-3, kind-4, rows-fit, rows-good, digits-good)
 
 -- the tests on a block's lines; w is the width
 module _ (k w : ℕ) (b : Bytes) (e : w ≡ widthOf k) where
@@ -129,6 +177,9 @@ module _ (k w : ℕ) (b : Bytes) (e : w ≡ widthOf k) where
   unfolding goodBody
   body-odd h = simp (← e, ne-eqb (length b % w) 0 h)
 
-  pub body-even : (r : Bool) → length b % w ≡ 0 → r ≡ goodRows k (rows (length b / w) w b) → r ≡ goodBody k b
+  pub rows-fill : length b % w ≡ 0 → length b / w * widthOf k ≡ length b
+  rows-fill h = rw (← e) (omega (arith, div-add-mod' (length b) w))
+
+  pub body-even : (r : Bool) → length b % w ≡ 0 → r ≡ goodRows k (rows (length b / w) (widthOf k) b) → r ≡ goodBody k b
   unfolding goodBody linesIn
-  body-even r h q = q ∙ rows-are k (rows (length b / w) w b) ∙ simp (← e, eq-eqb (length b % w) 0 h)
+  body-even r h q = q ∙ simp (← e, eq-eqb (length b % w) 0 h)

@@ -1,1 +1,1 @@
-pub mod Follow
+pub mod Body

@@ -9,8 +9,8 @@ ghost use mathlib.Core.Path.{_≡_};
 ghost use Prim.Native.Nat.{_*_, _≤_};
 ghost use lib.ListN.{length};
 ghost use Rattle.paper.specs.Bytes.{every};
-ghost use Rattle.paper.specs.Pack.{widthOf, riseOf, controlByte, yesNo, taxpayerLine, bankLine, stateLine, goodLine, rows, goodBody};
-ghost use Rattle.lines.specs.Follow.{follows, goodRows};
+ghost use Rattle.paper.specs.Pack.{widthOf, controlByte, yesNo, taxpayerLine, bankLine, stateLine, rows, rises, goodBody};
+ghost use Rattle.lines.specs.Body.{goodRows};
 
 // The width of a line, by the block's kind.
 pub fn width_of(kind: u8) -> usize
@@ -22,17 +22,6 @@ pub fn width_of(kind: u8) -> usize
         3 => 9,
         4 => 8,
         _ => 12,
-    }
-}
-
-// The width of what ascends.
-fn rise_of(kind: u8) -> usize
-    ensures { λ r. ⌜ r ≡ riseOf kind ⌝ }
-{
-    match kind {
-        1 => 9,
-        2 => 9,
-        _ => width_of(kind),
     }
 }
 
@@ -92,48 +81,165 @@ fn state_line(l: &[u8]) -> bool
     letters(piece(l, 0, 2)) & digits(piece(l, 2, 6)) & !is_before(piece(l, 5, 3), piece(l, 2, 3))
 }
 
-fn good_line(kind: u8, l: &[u8]) -> bool
-    ensures { λ r. ⌜ r ≡ goodLine kind (now (l .entry)) ⌝ }
+// Each of the first n lines is a taxpayer's.
+fn taxpayers(b: &[u8], n: usize) -> bool
+    requires { ⌜ n * 33 ≤ length (now b) ⌝ }
+    ensures { λ r. ⌜ r ≡ every taxpayerLine (rows n 33 (now (b .entry))) ⌝ }
 {
-    match kind {
-        1 => taxpayer_line(l),
-        2 => bank_line(l),
-        4 => state_line(l),
-        _ => digits(l),
-    }
-}
-
-// The line m is good, and its key comes after that of the line l.
-fn follows(kind: u8, l: &[u8], m: &[u8]) -> bool
-    ensures { λ r. ⌜ r ≡ follows kind (now (l .entry)) (now (m .entry)) ⌝ }
-{
-    let k = rise_of(kind);
-    good_line(kind, m) & is_before(piece(l, 0, k), piece(m, 0, k))
-}
-
-// The first n lines are good, and their keys ascend.
-fn good_rows(kind: u8, b: &[u8], width: usize, n: usize) -> bool
-    requires { ⌜ n * width ≤ length (now b) ⌝ }
-    ensures { λ r. ⌜ r ≡ goodRows kind (rows n width (now (b .entry))) ⌝ }
-{
-    if n == 0 {
-        return true;
-    }
-    if !good_line(kind, piece(b, 0, width)) {
-        return false;
-    }
-    let mut left = n - 1;
+    let mut left = n;
     let mut at = 0;
     while 0 < left {
-        let next = at + width;
-        let end = next + width;
-        if !follows(kind, &b[at..next], &b[next..end]) {
+        let end = at + 33;
+        if !taxpayer_line(&b[at..end]) {
+            return false;
+        }
+        at = end;
+        left -= 1;
+    }
+    true
+}
+
+// Each of the first n lines is a bank's.
+fn banks(b: &[u8], n: usize) -> bool
+    requires { ⌜ n * 10 ≤ length (now b) ⌝ }
+    ensures { λ r. ⌜ r ≡ every bankLine (rows n 10 (now (b .entry))) ⌝ }
+{
+    let mut left = n;
+    let mut at = 0;
+    while 0 < left {
+        let end = at + 10;
+        if !bank_line(&b[at..end]) {
+            return false;
+        }
+        at = end;
+        left -= 1;
+    }
+    true
+}
+
+// Each of the first n lines is a state's.
+fn states(b: &[u8], n: usize) -> bool
+    requires { ⌜ n * 8 ≤ length (now b) ⌝ }
+    ensures { λ r. ⌜ r ≡ every stateLine (rows n 8 (now (b .entry))) ⌝ }
+{
+    let mut left = n;
+    let mut at = 0;
+    while 0 < left {
+        let end = at + 8;
+        if !state_line(&b[at..end]) {
+            return false;
+        }
+        at = end;
+        left -= 1;
+    }
+    true
+}
+
+// The keys of the first n lines ascend; one function for each kind, so that the compiler knows the widths.
+fn taxpayers_ascend(b: &[u8], n: usize) -> bool
+    requires { ⌜ n * 33 ≤ length (now b) ⌝ }
+    ensures { λ r. ⌜ r ≡ rises 9 (rows n 33 (now (b .entry))) ⌝ }
+{
+    let mut left = n;
+    let mut at = 0;
+    while 1 < left {
+        let next = at + 33;
+        let key = at + 9;
+        let end = next + 9;
+        if !is_before(&b[at..key], &b[next..end]) {
             return false;
         }
         at = next;
         left -= 1;
     }
     true
+}
+
+fn banks_ascend(b: &[u8], n: usize) -> bool
+    requires { ⌜ n * 10 ≤ length (now b) ⌝ }
+    ensures { λ r. ⌜ r ≡ rises 9 (rows n 10 (now (b .entry))) ⌝ }
+{
+    let mut left = n;
+    let mut at = 0;
+    while 1 < left {
+        let next = at + 10;
+        let key = at + 9;
+        let end = next + 9;
+        if !is_before(&b[at..key], &b[next..end]) {
+            return false;
+        }
+        at = next;
+        left -= 1;
+    }
+    true
+}
+
+fn filed_ascend(b: &[u8], n: usize) -> bool
+    requires { ⌜ n * 9 ≤ length (now b) ⌝ }
+    ensures { λ r. ⌜ r ≡ rises 9 (rows n 9 (now (b .entry))) ⌝ }
+{
+    let mut left = n;
+    let mut at = 0;
+    while 1 < left {
+        let next = at + 9;
+        let end = next + 9;
+        if !is_before(&b[at..next], &b[next..end]) {
+            return false;
+        }
+        at = next;
+        left -= 1;
+    }
+    true
+}
+
+fn states_ascend(b: &[u8], n: usize) -> bool
+    requires { ⌜ n * 8 ≤ length (now b) ⌝ }
+    ensures { λ r. ⌜ r ≡ rises 8 (rows n 8 (now (b .entry))) ⌝ }
+{
+    let mut left = n;
+    let mut at = 0;
+    while 1 < left {
+        let next = at + 8;
+        let end = next + 8;
+        if !is_before(&b[at..next], &b[next..end]) {
+            return false;
+        }
+        at = next;
+        left -= 1;
+    }
+    true
+}
+
+fn sent_ascend(b: &[u8], n: usize) -> bool
+    requires { ⌜ n * 12 ≤ length (now b) ⌝ }
+    ensures { λ r. ⌜ r ≡ rises 12 (rows n 12 (now (b .entry))) ⌝ }
+{
+    let mut left = n;
+    let mut at = 0;
+    while 1 < left {
+        let next = at + 12;
+        let end = next + 12;
+        if !is_before(&b[at..next], &b[next..end]) {
+            return false;
+        }
+        at = next;
+        left -= 1;
+    }
+    true
+}
+
+// The n lines of a block of this kind are good, and their keys ascend.
+fn good_rows(kind: u8, b: &[u8], n: usize) -> bool
+    requires { ⌜ n * widthOf kind ≡ length (now b) ⌝ }
+    ensures { λ r. ⌜ r ≡ goodRows kind (rows n (widthOf kind) (now (b .entry))) ⌝ }
+{
+    match kind {
+        1 => taxpayers(b, n) & taxpayers_ascend(b, n),
+        2 => banks(b, n) & banks_ascend(b, n),
+        3 => digits(b) & filed_ascend(b, n),
+        4 => states(b, n) & states_ascend(b, n),
+        _ => digits(b) & sent_ascend(b, n),
+    }
 }
 
 // The lines of a block of this kind.
@@ -144,5 +250,5 @@ pub fn good_body(kind: u8, b: &[u8]) -> bool
     if b.len() % w != 0 {
         return false;
     }
-    good_rows(kind, b, w, b.len() / w)
+    good_rows(kind, b, b.len() / w)
 }

@@ -1,7 +1,6 @@
 use borrow.Author.Needs.{needs}
-use native.Mathlib.Nat.{div-mul-le-self}
 use native.Mathlib.Omega.{arith}
-use Rattle.lines.proofs.Rows.{width-some, body-odd, body-even}
+use Rattle.lines.proofs.Rows.{width-some, body-odd, rows-fill, body-even}
 use Rattle.lines.proofs.good_body.Statement.{statement}
 use Rattle.lines.proofs.good_body.Tie as tie
 
@@ -13,5 +12,5 @@ good-body-spec =
     (λ c. omega (arith, width-some (c .before .before .args .kind)))
     (λ c. search body-odd)
     (λ c. omega (arith, width-some (c .before .before .before .args .kind)))
-    (λ c κs. div-mul-le-self _ _)
+    (λ c κs. search rows-fill)
     (λ c. search body-even))
