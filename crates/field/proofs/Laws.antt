@@ -9,7 +9,7 @@ use native.Mathlib.Nat.{le-of-eq}
 use lib.Dec.{eqb, leb}
 use lib.ListN.{length, getD, take, drop, length-drop}
 use lib.Seq.{take-all, take-suc}
-use borrow.Author.Tests.{eq-eqb, ne-eqb, le-leb, lt-leb}
+use borrow.Author.Tests.{eq-eqb, ne-eqb}
 use Rattle.paper.specs.Bytes.{bit, count, any, isSpace, isZero, blank}
 use Rattle.paper.specs.Fields.{consTrim, trim, beside, spaced, zerosThenBlanks}
 use Rattle.paper.proofs.Laws.{next, ended}
@@ -55,30 +55,38 @@ trim-whole s = ap trim (sym (take-all (length s) s (le-of-eq refl)))
 
 pub ruleset trim-loop = (trim-again, trim-done, trim-none, trim-whole)
 
--- The answers of a loop over the neighbours; b says whether the two at i are those
-module _ (p q : ℕ → Bool) (s : List ℕ) (i : ℕ) (v : beside p q s ≡ beside p q (drop i s)) where
-  two : i + 1 < length s → beside p q s ≡ ((p (getD s i 0) && q (getD s (i + 1) 0)) || beside p q (drop (i + 1) s))
+or-step : (a b c : Bool) → (a || (b || c)) ≡ ((a || b) || c)
+or-step true b c = refl
+or-step false b c = refl
+
+or-false : (a : Bool) → (a || false) ≡ a
+or-false true = refl
+or-false false = refl
+
+-- The answers of a loop over the neighbours; f says whether the two stand before i, r whether they are the two at i
+module _ (p q : ℕ → Bool) (s : List ℕ) (i : ℕ) (f : Bool) (v : beside p q s ≡ (f || beside p q (drop (i - 1) s))) (o : 1 ≤ i) where
+  two : i < length s → beside p q (drop (i - 1) s) ≡ (p (getD s (i - 1) 0) && q (getD s i 0) || beside p q (drop i s))
   two h =
-      let y : drop (i + 1) s ≡ getD s (i + 1) 0 ∷ drop (i + 1 + 1) s = next s (i + 1) h in
-      let x : drop i s ≡ getD s i 0 ∷ drop (i + 1) s = next s i (omega arith) in
-      v ∙ ap (beside p q) (x ∙ ap (λ (l : List ℕ). getD s i 0 ∷ l) y)
-      ∙ ap (λ (l : List ℕ). p (getD s i 0) && q (getD s (i + 1) 0) || beside p q l) (sym y)
+      let k : i - 1 + 1 ≡ i = omega arith in
+      let y : drop i s ≡ getD s i 0 ∷ drop (i + 1) s = next s i h in
+      let x : drop (i - 1) s ≡ getD s (i - 1) 0 ∷ drop i s = next s (i - 1) (omega arith) ∙ ap (λ (n : ℕ). getD s (i - 1) 0 ∷ drop n s) k in
+      ap (beside p q) (x ∙ ap (λ (l : List ℕ). getD s (i - 1) 0 ∷ l) y) ∙ ap (λ (l : List ℕ). p (getD s (i - 1) 0) && q (getD s i 0) || beside p q l) (sym y)
 
-  pub beside-again : i + 1 < length s → (p (getD s i 0) && q (getD s (i + 1) 0)) ≡ false → beside p q s ≡ beside p q (drop (i + 1) s)
-  beside-again h e = two h ∙ ap (λ (b : Bool). b || beside p q (drop (i + 1) s)) e
+  pub beside-again : (r : Bool) → i < length s → r ≡ (p (getD s (i - 1) 0) && q (getD s i 0)) → beside p q s ≡ ((f || r) || beside p q (drop (i + 1 - 1) s))
+  beside-again r h e =
+      let k : i ≡ i + 1 - 1 = omega arith in
+      v ∙ ap (λ (b : Bool). f || b) (two h ∙ ap (λ (b : Bool). b || beside p q (drop i s)) (sym e)) ∙ or-step f r (beside p q (drop i s))
+      ∙ ap (λ (n : ℕ). (f || r) || beside p q (drop n s)) k
 
-  pub beside-yes : i + 1 < length s → (p (getD s i 0) && q (getD s (i + 1) 0)) ≡ true → true ≡ beside p q s
-  beside-yes h e = sym (two h ∙ ap (λ (b : Bool). b || beside p q (drop (i + 1) s)) e)
-
-  pub beside-no : length s ≤ i + 1 → false ≡ beside p q s
-  beside-no h = go (drop i s) refl
+  pub beside-done : length s ≤ i → f ≡ beside p q s
+  beside-done h = sym (v ∙ ap (λ (b : Bool). f || b) (go (drop (i - 1) s) refl) ∙ or-false f)
     where
-      go : (l : List ℕ) → drop i s ≡ l → false ≡ beside p q s
-      go [] e = sym (v ∙ ap (beside p q) e)
-      go (x ∷ []) e = sym (v ∙ ap (beside p q) e)
-      go (x ∷ y ∷ l) e = absurd (omega (arith, length-drop i s, ap length e))
+      go : (l : List ℕ) → drop (i - 1) s ≡ l → beside p q l ≡ false
+      go [] e = refl
+      go (x ∷ []) e = refl
+      go (x ∷ y ∷ l) e = absurd (omega (arith, length-drop (i - 1) s, ap length e))
 
-pub ruleset beside-loop = (beside-again, beside-yes, beside-no)
+pub ruleset beside-loop = (beside-again, beside-done)
 
 -- the first byte, whatever stands for none
 pub first-of : (t : List ℕ) → (length t ≡ 0 → ⊥) → getD t 0 32 ≡ getD t 0 0
@@ -108,16 +116,13 @@ count-again p s i n r b v h e f =
     let w : count p (drop i s) ≡ r + count p (drop (i + 1) s) = ap (count p) (next s i h) ∙ ap (λ (k : ℕ). k + count p (drop (i + 1) s)) g in
     omega arith
 
-pub count-enough : (p : ℕ → Bool) (s : List ℕ) (i n r m : ℕ) (b : Bool) → count p s ≡ n + count p (drop i s) → i < length s → b ≡ p (getD s i 0) → r ≡ bit b
-    → m ≤ n + r → true ≡ leb m (count p s)
-count-enough p s i n r m b v h e f l =
-    let w : count p s ≡ n + r + count p (drop (i + 1) s) = count-again p s i n r b v h e f in sym (le-leb m (count p s) (omega arith))
+pub count-done : (p : ℕ → Bool) (s : List ℕ) (i n m : ℕ) → count p s ≡ n + count p (drop i s) → length s ≤ i → leb m n ≡ leb m (count p s)
+count-done p s i n m v h =
+    let w : count p (drop i s) ≡ 0 = ap (count p) (ended s i h) in
+    let e : n ≡ count p s = omega arith in
+    ap (leb m) e
 
-pub count-few : (p : ℕ → Bool) (s : List ℕ) (i n m : ℕ) → count p s ≡ n + count p (drop i s) → length s ≤ i → n < m → false ≡ leb m (count p s)
-count-few p s i n m v h l =
-    let w : count p (drop i s) ≡ 0 = ap (count p) (ended s i h) in sym (lt-leb m (count p s) (omega arith))
-
-pub ruleset count-loop = (count-again, count-enough, count-few)
+pub ruleset count-loop = (count-again, count-done)
 
 -- The answers of a loop over the zeros before the blanks
 module _ (s : List ℕ) (i : ℕ) (v : zerosThenBlanks s ≡ zerosThenBlanks (drop i s)) where

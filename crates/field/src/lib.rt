@@ -25,14 +25,13 @@ fn trimmed(s: &[u8]) -> &[u8]
 fn beside(s: &[u8], a: u8, b: u8) -> bool
     ensures { λ r. ⌜ r ≡ beside (λ x. eqb x a) (λ x. eqb x b) (now (s .entry)) ⌝ }
 {
-    let mut i = 0;
-    while i + 1 < s.len() {
-        if (s[i] == a) & (s[i + 1] == b) {
-            return true;
-        }
+    let mut found = false;
+    let mut i = 1;
+    while i < s.len() {
+        found = found | (s[i - 1] == a) & (s[i] == b);
         i += 1;
     }
-    false
+    found
 }
 
 fn spaced(s: &[u8]) -> bool
@@ -54,14 +53,13 @@ fn name_byte(x: u8) -> bool
 fn name_bytes(s: &[u8]) -> bool
     ensures { λ r. ⌜ r ≡ every nameByte (now (s .entry)) ⌝ }
 {
+    let mut all = true;
     let mut i = 0;
     while i < s.len() {
-        if !name_byte(s[i]) {
-            return false;
-        }
+        all = all & name_byte(s[i]);
         i += 1;
     }
-    true
+    all
 }
 
 pub fn name(s: &[u8]) -> bool
@@ -89,14 +87,13 @@ fn street_byte(x: u8) -> bool
 fn street_bytes(s: &[u8]) -> bool
     ensures { λ r. ⌜ r ≡ every streetByte (now (s .entry)) ⌝ }
 {
+    let mut all = true;
     let mut i = 0;
     while i < s.len() {
-        if !street_byte(s[i]) {
-            return false;
-        }
+        all = all & street_byte(s[i]);
         i += 1;
     }
-    true
+    all
 }
 
 pub fn street(s: &[u8]) -> bool
@@ -118,12 +115,9 @@ fn three_letters(s: &[u8]) -> bool
     let mut i = 0;
     while i < s.len() {
         n += one_if(text::is_letter(s[i]));
-        if 3 <= n {
-            return true;
-        }
         i += 1;
     }
-    false
+    3 <= n
 }
 
 fn city_byte(x: u8) -> bool
@@ -135,14 +129,13 @@ fn city_byte(x: u8) -> bool
 fn city_bytes(s: &[u8]) -> bool
     ensures { λ r. ⌜ r ≡ every cityByte (now (s .entry)) ⌝ }
 {
+    let mut all = true;
     let mut i = 0;
     while i < s.len() {
-        if !city_byte(s[i]) {
-            return false;
-        }
+        all = all & city_byte(s[i]);
         i += 1;
     }
-    true
+    all
 }
 
 pub fn city(s: &[u8]) -> bool

@@ -1,5 +1,6 @@
 use borrow.Author.Needs.{needs}
 use mathlib.Core.Path.{_≡_}
+use mathlib.Core.Bool.{_||_}
 use Prim.Native.Nat.{_≤_, _-_}
 use lib.ListN.{length, drop}
 use lib.Dec.{eqb}
@@ -9,10 +10,11 @@ use Rattle.field.proofs.beside.Statement.{statement}
 use Rattle.field.proofs.beside.Tie as tie
 
 abbrev Inv-loop : tie.InvT-loop
-Inv-loop s a b i₀ i = (i ≤ length s) × (beside (λ x. eqb x a) (λ x. eqb x b) s ≡ beside (λ x. eqb x a) (λ x. eqb x b) (drop i s))
+Inv-loop s a b found₀ i₀ found i =
+    (1 ≤ i) × (beside (λ x. eqb x a) (λ x. eqb x b) s ≡ (found || beside (λ x. eqb x a) (λ x. eqb x b) (drop (i - 1) s)))
 
 abbrev μ-loop : tie.MeasureT-loop
-μ-loop s a b i₀ i = length s - i
+μ-loop s a b found₀ i₀ found i = length s - i
 
 pub beside-spec : {M : Type 1} → statement M
 beside-spec =
@@ -24,8 +26,6 @@ beside-spec =
     (λ c. search needs)
     (λ c. search needs)
     (λ c. search needs)
-    (λ c. search needs)
-    (λ c. search (needs, beside-loop))
     (λ c. search needs)
     (λ c. search needs)
     (λ c. search (needs, beside-loop))

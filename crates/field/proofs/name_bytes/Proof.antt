@@ -1,18 +1,19 @@
 use borrow.Author.Needs.{needs}
 use mathlib.Core.Path.{_≡_}
+use mathlib.Core.Bool.{_&&_}
 use Prim.Native.Nat.{_≤_, _-_}
 use lib.ListN.{length, drop}
 use Rattle.paper.specs.Bytes.{every}
 use Rattle.paper.specs.Fields.{nameByte}
-use Rattle.paper.proofs.Laws.{every-loop}
+use Rattle.paper.proofs.Laws.{all-loop}
 use Rattle.field.proofs.name_bytes.Statement.{statement}
 use Rattle.field.proofs.name_bytes.Tie as tie
 
 abbrev Inv-loop : tie.InvT-loop
-Inv-loop s i₀ i = (i ≤ length s) × (every nameByte s ≡ every nameByte (drop i s))
+Inv-loop s all₀ i₀ all i = (i ≤ length s) × (every nameByte s ≡ (all && every nameByte (drop i s)))
 
 abbrev μ-loop : tie.MeasureT-loop
-μ-loop s i₀ i = length s - i
+μ-loop s all₀ i₀ all i = length s - i
 
 pub name-bytes-spec : {M : Type 1} → statement M
 name-bytes-spec =
@@ -23,8 +24,7 @@ name-bytes-spec =
     (λ c. search needs)
     (λ c. search needs)
     (λ c κs. search needs)
-    (λ c. search (needs, every-loop))
     (λ c. search needs)
     (λ c. search needs)
-    (λ c. search (needs, every-loop))
-    (λ c. search (needs, every-loop)))
+    (λ c. search (needs, all-loop))
+    (λ c. search (needs, all-loop)))

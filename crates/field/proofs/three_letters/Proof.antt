@@ -1,6 +1,6 @@
 use borrow.Author.Needs.{needs}
 use mathlib.Core.Path.{_≡_}
-use Prim.Native.Nat.{_≤_, _<_, _+_, _-_}
+use Prim.Native.Nat.{_≤_, _+_, _-_}
 use lib.ListN.{length, drop}
 use Rattle.paper.specs.Bytes.{count, isLetter}
 use Rattle.field.proofs.Laws.{count-loop}
@@ -8,7 +8,7 @@ use Rattle.field.proofs.three_letters.Statement.{statement}
 use Rattle.field.proofs.three_letters.Tie as tie
 
 abbrev Inv-loop : tie.InvT-loop
-Inv-loop s n₀ i₀ n i = (i ≤ length s) × (n < 3) × (count isLetter s ≡ n + count isLetter (drop i s))
+Inv-loop s n₀ i₀ n i = (i ≤ length s) × (n ≤ i) × (count isLetter s ≡ n + count isLetter (drop i s))
 
 abbrev μ-loop : tie.MeasureT-loop
 μ-loop s n₀ i₀ n i = length s - i
@@ -24,7 +24,6 @@ three-letters-spec =
     (λ c κs. search needs)
     (λ c κs. search needs)
     (λ c. search needs)
-    (λ c. search (needs, count-loop))
     (λ c. search needs)
     (λ c. search needs)
     (λ c. search (needs, count-loop))
