@@ -6,7 +6,10 @@ ghost use Rattle.paper.specs.Conditions.{notDigits, notX, notDate, notPositive,
 pub fn not_digits(f: &[u8]) -> bool
     ensures { λ r. ⌜ r ≡ notDigits (now (f .entry)) ⌝ }
 {
-    !text::blank(f) & !text::digits(f)
+    if text::blank(f) {
+        return false;
+    }
+    !text::digits(f)
 }
 
 // 0010: not X or blank.
@@ -20,7 +23,10 @@ pub fn not_x(f: &[u8]) -> bool
 pub fn not_date(f: &[u8]) -> bool
     ensures { λ r. ⌜ r ≡ notDate (now (f .entry)) ⌝ }
 {
-    !text::blank(f) & !date::valid_date(f)
+    if text::blank(f) {
+        return false;
+    }
+    !date::valid_date(f)
 }
 
 // 0010: not digits or zero.
@@ -34,7 +40,10 @@ pub fn not_positive(f: &[u8]) -> bool
 pub fn not_pin(f: &[u8]) -> bool
     ensures { λ r. ⌜ r ≡ notPin (now (f .entry)) ⌝ }
 {
-    !text::blank(f) & not_positive(f)
+    if text::blank(f) {
+        return false;
+    }
+    not_positive(f)
 }
 
 // The byte is one of these.
@@ -83,7 +92,10 @@ pub fn not_year_4(f: &[u8]) -> bool
 pub fn no_number(f: &[u8]) -> bool
     ensures { λ r. ⌜ r ≡ noNumber (now (f .entry)) ⌝ }
 {
-    !text::blank(f) & (!text::digits(f) | text::zeros(f) | text::nines(f))
+    if text::blank(f) {
+        return false;
+    }
+    !text::digits(f) | text::zeros(f) | text::nines(f)
 }
 
 // 0315, 0316: the number is digits, and no line has this control.

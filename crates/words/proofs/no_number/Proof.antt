@@ -1,4 +1,5 @@
 use Rattle.paper.specs.Conditions.{noNumber}
+use Rattle.paper.proofs.Flow.{flow, joined}
 use borrow.Author.Needs.{needs}
 use Rattle.words.proofs.no_number.Statement.{statement}
 use Rattle.words.proofs.no_number.Tie as tie
@@ -9,7 +10,8 @@ no-number-spec =
     tie.close
     (tie.spec
     (λ c κs. search needs)
+    (λ c. search flow)
     (λ c κs. search needs)
     (λ c κs. search needs)
     (λ c κs. search needs)
-    (λ c. cc))
+    (λ c. search (flow, joined)))

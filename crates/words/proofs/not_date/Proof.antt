@@ -1,4 +1,5 @@
 use Rattle.paper.specs.Conditions.{notDate}
+use Rattle.paper.proofs.Flow.{flow, joined}
 use borrow.Author.Needs.{needs}
 use Rattle.words.proofs.not_date.Statement.{statement}
 use Rattle.words.proofs.not_date.Tie as tie
@@ -9,5 +10,6 @@ not-date-spec =
     tie.close
     (tie.spec
     (λ c κs. search needs)
+    (λ c. search flow)
     (λ c κs. search needs)
-    (λ c. cc))
+    (λ c. search (flow, joined)))

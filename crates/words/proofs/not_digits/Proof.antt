@@ -1,4 +1,5 @@
 use Rattle.paper.specs.Conditions.{notDigits}
+use Rattle.paper.proofs.Flow.{flow, joined}
 use borrow.Author.Needs.{needs}
 use Rattle.words.proofs.not_digits.Statement.{statement}
 use Rattle.words.proofs.not_digits.Tie as tie
@@ -9,5 +10,6 @@ not-digits-spec =
     tie.close
     (tie.spec
     (λ c κs. search needs)
+    (λ c. search flow)
     (λ c κs. search needs)
-    (λ c. cc))
+    (λ c. search (flow, joined)))
