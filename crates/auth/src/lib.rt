@@ -88,37 +88,59 @@ fn self_only(form: &[u8], whole: Facts) -> bool
 fn is_missing(kind: &[u8], n: u32, own: &[u8], form: &[u8], whole: Facts) -> bool
     ensures { λ r. ⌜ r ≡ missing (now (kind .entry)) n (now (own .entry)) (now (form .entry)) whole ⌝ }
 {
-    is_typed(kind, own)
-        & (0 < whole.pays)
-        & text::blank(field_of(n, own))
-        & !spouse_only(form, whole)
+    if whole.pays == 0 {
+        return false;
+    }
+    if !is_typed(kind, own) {
+        return false;
+    }
+    if !text::blank(field_of(n, own)) {
+        return false;
+    }
+    !spouse_only(form, whole)
 }
 
 // 0671 (S), 0682 (O): with a payment, 0100 present, blank, unless self only.
 fn missing_spouse(kind: &[u8], n: u32, own: &[u8], form: &[u8], whole: Facts) -> bool
     ensures { λ r. ⌜ r ≡ missingSpouse (now (kind .entry)) n (now (own .entry)) (now (form .entry)) whole ⌝ }
 {
-    is_typed(kind, own)
-        & (0 < whole.pays)
-        & !text::blank(of_form(100, form))
-        & text::blank(field_of(n, own))
-        & !self_only(form, whole)
+    if whole.pays == 0 {
+        return false;
+    }
+    if !is_typed(kind, own) {
+        return false;
+    }
+    if text::blank(of_form(100, form)) {
+        return false;
+    }
+    if !text::blank(field_of(n, own)) {
+        return false;
+    }
+    !self_only(form, whole)
 }
 
 // 0697: type P, blank.
 fn missing_p(n: u32, own: &[u8]) -> bool
     ensures { λ r. ⌜ r ≡ missingP n (now (own .entry)) ⌝ }
 {
-    is_typed(b"P", own) & text::blank(field_of(n, own))
+    if !is_typed(b"P", own) {
+        return false;
+    }
+    text::blank(field_of(n, own))
 }
 
 // 0679, 0680: types S and O, present and not the prior income of the line.
 fn wrong_income(n: u32, own: &[u8], line: &[u8]) -> bool
     ensures { λ r. ⌜ r ≡ wrongIncome n (now (own .entry)) (now (line .entry)) ⌝ }
 {
-    self_select(own)
-        & !text::blank(field_of(n, own))
-        & !text::is_same(text::piece(line, 21, 12), field_of(n, own))
+    if !self_select(own) {
+        return false;
+    }
+    let f = field_of(n, own);
+    if text::blank(f) {
+        return false;
+    }
+    !text::is_same(text::piece(line, 21, 12), f)
 }
 
 // Whether the rule of this field and code is broken, after so many authentications of the document; payer and spouse are the taxpayer

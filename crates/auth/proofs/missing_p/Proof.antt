@@ -1,4 +1,5 @@
 use Rattle.paper.specs.Conditions.{missingP}
+use Rattle.paper.proofs.Flow.{flow, joined}
 use borrow.Author.Needs.{needs}
 use Rattle.auth.proofs.missing_p.Statement.{statement}
 use Rattle.auth.proofs.missing_p.Tie as tie
@@ -10,6 +11,7 @@ missing-p-spec =
     (tie.spec
     (λ c. search needs)
     (λ c κs. search needs)
+    (λ c. search flow)
     (λ c κs. search needs)
     (λ c κs. search needs)
-    (λ c. cc))
+    (λ c. rw (← c .before .field-of .ensures) (search (flow, joined))))
