@@ -50,13 +50,19 @@ fn is_addressed(n: u32, form: &[u8]) -> bool
 fn wrong_street(n: u32, form: &[u8]) -> bool
     ensures { λ r. ⌜ r ≡ wrongStreet n (now (form .entry)) ⌝ }
 {
-    is_addressed(n, form) & !field::street(field_of(n, form))
+    if !is_addressed(n, form) {
+        return false;
+    }
+    !field::street(field_of(n, form))
 }
 
 fn wrong_city(n: u32, form: &[u8]) -> bool
     ensures { λ r. ⌜ r ≡ wrongCity n (now (form .entry)) ⌝ }
 {
-    is_addressed(n, form) & !field::city(field_of(n, form))
+    if !is_addressed(n, form) {
+        return false;
+    }
+    !field::city(field_of(n, form))
 }
 
 fn no_lines(zips: &[u8]) -> bool
@@ -68,7 +74,10 @@ fn no_lines(zips: &[u8]) -> bool
 fn wrong_state(form: &[u8], zips: &[u8]) -> bool
     ensures { λ r. ⌜ r ≡ wrongState (now (form .entry)) (linesIn 8 (now (zips .entry))) ⌝ }
 {
-    is_addressed(60, form) & (!text::letters(field_of(60, form)) | no_lines(zips))
+    if !is_addressed(60, form) {
+        return false;
+    }
+    !text::letters(field_of(60, form)) | no_lines(zips)
 }
 
 fn bad_zip(f: &[u8], zips: &[u8]) -> bool
@@ -80,30 +89,39 @@ fn bad_zip(f: &[u8], zips: &[u8]) -> bool
 fn wrong_zip(form: &[u8], zips: &[u8]) -> bool
     ensures { λ r. ⌜ r ≡ wrongZip (now (form .entry)) (linesIn 8 (now (zips .entry))) ⌝ }
 {
-    is_addressed(70, form) & bad_zip(field_of(70, form), zips)
+    if !is_addressed(70, form) {
+        return false;
+    }
+    bad_zip(field_of(70, form), zips)
 }
 
 // 0306: a blank field of the foreign address, or one of the domestic address that is present.
 fn wrong_foreign(form: &[u8]) -> bool
     ensures { λ r. ⌜ r ≡ wrongForeign (now (form .entry)) ⌝ }
 {
-    is_foreign(form)
-        & (text::blank(field_of(32, form))
-            | text::blank(field_of(34, form))
-            | text::blank(field_of(36, form))
-            | !text::blank(field_of(40, form))
-            | !text::blank(field_of(50, form))
-            | !text::blank(field_of(60, form))
-            | !field::zeros_then_blanks(field_of(70, form)))
+    if !is_foreign(form) {
+        return false;
+    }
+    text::blank(field_of(32, form))
+        | text::blank(field_of(34, form))
+        | text::blank(field_of(36, form))
+        | !text::blank(field_of(40, form))
+        | !text::blank(field_of(50, form))
+        | !text::blank(field_of(60, form))
+        | !field::zeros_then_blanks(field_of(70, form))
 }
 
 // 0314: 0180 significant, 0114 X, 0100 blank.
 fn no_spouse(form: &[u8]) -> bool
     ensures { λ r. ⌜ r ≡ noSpouse (now (form .entry)) ⌝ }
 {
-    text::significant(field_of(180, form))
-        & text::is_same(field_of(114, form), b"X")
-        & text::blank(field_of(100, form))
+    if !text::is_same(field_of(114, form), b"X") {
+        return false;
+    }
+    if !text::significant(field_of(180, form)) {
+        return false;
+    }
+    text::blank(field_of(100, form))
 }
 
 // 0010, by field.

@@ -1,4 +1,5 @@
 use Rattle.paper.specs.Conditions.{wrongForeign}
+use Rattle.paper.proofs.Flow.{and-skip, flow}
 use borrow.Author.Needs.{needs}
 use Rattle.form.proofs.wrong_foreign.Statement.{statement}
 use Rattle.form.proofs.wrong_foreign.Tie as tie
@@ -9,6 +10,7 @@ wrong-foreign-spec =
     tie.close
     (tie.spec
     (λ c κs. search needs)
+    (λ c. search flow)
     (λ c κs. search needs)
     (λ c κs. search needs)
     (λ c κs. search needs)
@@ -23,4 +25,4 @@ wrong-foreign-spec =
     (λ c κs. search needs)
     (λ c κs. search needs)
     (λ c κs. search needs)
-    (λ c. cc))
+    (λ c. and-skip _ _ _ _ (c .before .before .before .before .before .before .before .before .before .before .before .before .before .before .before .is-foreign .ensures) (c .before .before .before .before .before .before .before .before .before .before .before .before .before .before .if1 .left) (cc)))
