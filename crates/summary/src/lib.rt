@@ -46,17 +46,22 @@ fn wrong_year(f: &[u8]) -> bool
 fn missing_mark(n: u32, own: &[u8]) -> bool
     ensures { λ r. ⌜ r ≡ missingMark n (now (own .entry)) ⌝ }
 {
-    text::blank(field_of(n, own))
-        & (!text::blank(field_of(260, own))
-            | !text::blank(field_of(270, own))
-            | !text::blank(field_of(280, own)))
+    if !text::blank(field_of(n, own)) {
+        return false;
+    }
+    !text::blank(field_of(260, own))
+        | !text::blank(field_of(270, own))
+        | !text::blank(field_of(280, own))
 }
 
 // Present and not HHMM.
 fn not_time(f: &[u8]) -> bool
     ensures { λ r. ⌜ r ≡ notTime (now (f .entry)) ⌝ }
 {
-    !text::blank(f) & !field::hhmm(f)
+    if text::blank(f) {
+        return false;
+    }
+    !field::hhmm(f)
 }
 
 // 0010, by field.

@@ -1,4 +1,5 @@
 use Rattle.paper.specs.Conditions.{notTime}
+use Rattle.paper.proofs.Flow.{flow, joined}
 use borrow.Author.Needs.{needs}
 use Rattle.summary.proofs.not_time.Statement.{statement}
 use Rattle.summary.proofs.not_time.Tie as tie
@@ -9,5 +10,6 @@ not-time-spec =
     tie.close
     (tie.spec
     (λ c κs. search needs)
+    (λ c. search flow)
     (λ c κs. search needs)
-    (λ c. cc))
+    (λ c. search (flow, joined)))
