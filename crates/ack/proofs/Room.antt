@@ -2,7 +2,7 @@
 use mathlib.Core.Path.{_≡_, refl, sym, ap, _∙_, subst}
 use mathlib.Core.Bool.{Bool, true, false, cond, _||_}
 use mathlib.Core.List.{List, [], _∷_, _++_, map}
-use Prim.Native.Nat.{ℕ, _+_, _-_, _*_, _/_, _≤_, _<_}
+use Prim.Native.Nat.{ℕ, suc, _+_, _-_, _*_, _/_, _≤_, _<_, min}
 use native.Mathlib.Omega.{arith}
 use lib.ListN.{length, take, drop, length-append, length-take, length-drop, length-map}
 use Rattle.paper.specs.declared.Kind.{Kind}
@@ -103,6 +103,14 @@ module _ (L : Lines) (date : Bytes) where
           let t = turn date b (asked L d) in
           omega (arith, length-append (setOf t) (setsIn (turns date (after t) (map (asked L) (docsOf rs)))), set-most b d e, ih (after t))
 
+pub forms-few : (ds : List Doc) → count known ds ≤ length ds
+forms-few [] = omega arith
+forms-few (d ∷ ds) = by (known d) (forms-few ds)
+  where
+    by : (b : Bool) → count known ds ≤ length ds → bit b + count known ds ≤ suc (length ds)
+    by true ih = omega arith
+    by false ih = omega arith
+
 -- by the number of documents and of bytes
-pub most-of : (size n forms : ℕ) → 43 * n + 341 * forms ≤ size → 240 * n + 11400 * forms ≤ 240 * n + 11400 * ((size - 43 * n) / 341)
-most-of size n forms h = omega arith
+pub most-of : (size n forms : ℕ) → 43 * n + 341 * forms ≤ size → forms ≤ n → 240 * n + 11400 * forms ≤ 240 * n + 11400 * min n ((size - 43 * n) / 341)
+most-of size n forms h f = omega arith

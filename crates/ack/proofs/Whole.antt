@@ -2,7 +2,7 @@
 use mathlib.Core.Path.{_≡_, refl, sym, ap, _∙_, subst}
 use mathlib.Core.Bool.{true}
 use mathlib.Core.List.{List, [], _∷_, _++_, map, append-assoc}
-use Prim.Native.Nat.{ℕ, _+_, _-_, _*_, _/_, _≤_, _<_}
+use Prim.Native.Nat.{ℕ, _+_, _-_, _*_, _/_, _≤_, _<_, min}
 use native.Mathlib.Omega.{arith}
 use lib.ListN.{length, take, drop, length-append, length-take, length-map}
 use lib.Dec.{leb}
@@ -23,7 +23,7 @@ use Rattle.walk.proofs.Docs.{docs-few}
 use Rattle.ack.specs.declared.Done.{Done}
 use Rattle.ack.specs.Ties.{Begins, turnsIn, setsIn, judgedFile, Written}
 use Rattle.ack.proofs.Tour.{parts, docs-count}
-use Rattle.ack.proofs.Room.{docs-weigh, sets-most, most-of}
+use Rattle.ack.proofs.Room.{docs-weigh, sets-most, forms-few, most-of}
 
 length-turns : (date : Bytes) (b : Before) (cs : List Case) → length (turns date b cs) ≡ length cs
 length-turns date b [] = refl
@@ -36,18 +36,18 @@ module _ (L : Lines) (date name t : Bytes) (n : ℕ) (b : Begins t n) where
   turns-count : length ts ≡ n
   turns-count = length-turns date start (map (asked L) (docsOf (records t))) ∙ length-map (docsOf (records t)) (asked L) ∙ sym (docs-count t n (b .sound))
 
-  sets-within : length (setsIn ts) ≤ 240 * n + 11400 * ((length t - 43 * n) / 341)
+  sets-within : length (setsIn ts) ≤ 240 * n + 11400 * min n ((length t - 43 * n) / 341)
   sets-within =
       let c = docs-count t n (b .sound) in
-      let m = most-of (length t) (length (docsOf (records t))) (count known (docsOf (records t))) (docs-weigh t) in
-      omega (arith, sets-most L date start (records t), m, ap (λ (k : ℕ). 240 * k + 11400 * ((length t - 43 * k) / 341)) c)
+      let m = most-of (length t) (length (docsOf (records t))) (count known (docsOf (records t))) (docs-weigh t) (forms-few (docsOf (records t))) in
+      omega (arith, sets-most L date start (records t), m, ap (λ (k : ℕ). 240 * k + 11400 * min k ((length t - 43 * k) / 341)) c)
 
   pub sets-small : length (setsIn ts) ≤ 762839040
   sets-small =
       let f : count known (docsOf (records t)) ≤ 65536 = omega (arith, docs-weigh t, b .short) in
       omega (arith, sets-most L date start (records t), docs-count t n (b .sound), b .few)
 
-  pub room-for : (room : ℕ) → 360 + 240 * n + 11400 * ((length t - 43 * n) / 341) ≤ room → true ≡ leb (360 + length (setsIn ts)) room
+  pub room-for : (room : ℕ) → 360 + 240 * n + 11400 * min n ((length t - 43 * n) / 341) ≤ room → true ≡ leb (360 + length (setsIn ts)) room
   room-for room h =
       let few : 360 + length (setsIn ts) ≤ room = omega (arith, sets-within) in
       sym (le-leb (360 + length (setsIn ts)) room few)

@@ -11,7 +11,7 @@ use walk::Outer;
 ghost use mathlib.Core.Path.{_≡_};
 ghost use mathlib.Core.Bool.{cond};
 ghost use mathlib.Core.List.{_++_};
-ghost use Prim.Native.Nat.{_+_, _-_, _*_, _/_, _≤_};
+ghost use Prim.Native.Nat.{_+_, _-_, _*_, _/_, _≤_, min};
 ghost use lib.Dec.{eqb, leb};
 ghost use lib.ListN.{length};
 ghost use Rattle.paper.specs.Bytes.{bytes, bit, every, within, zeros, blanks};
@@ -158,13 +158,20 @@ fn need(
     size
 }
 
+fn lesser(a: usize, b: usize) -> usize
+    ensures { λ r. ⌜ r ≡ min a b ⌝ }
+{
+    if a < b { a } else { b }
+}
+
 // The most that the file of n documents can take: the set of a document of 43 bytes has 240, and that of a 4868 document, which has 341
 // bytes more at least, has 11,400 more at most.
 fn most(size: usize, n: usize) -> usize
     requires { ⌜ (size ≤ 65536) × (43 * n ≤ size) ⌝ }
-    ensures { λ r. ⌜ r ≡ 360 + 240 * n + 11400 * ((size - 43 * n) / 341) ⌝ }
+    ensures { λ r. ⌜ r ≡ 360 + 240 * n + 11400 * min n ((size - 43 * n) / 341) ⌝ }
 {
-    360 + 240 * n + 11400 * ((size - 43 * n) / 341)
+    let forms = lesser(n, (size - 43 * n) / 341);
+    360 + 240 * n + 11400 * forms
 }
 
 // The file goes into so many bytes: the most that it could take does, or else what it takes.
