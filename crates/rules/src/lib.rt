@@ -2,12 +2,11 @@
 use paper::Facts;
 use paper::Kind;
 ghost use mathlib.Core.Path.{_≡_};
-ghost use Prim.Native.Nat.{_/_, _%_, _<_, _≤_};
-ghost use lib.ListN.{length, getD};
+ghost use mathlib.Core.List.{[]};
 ghost use Rattle.paper.specs.Bytes.{those};
 ghost use Rattle.paper.specs.Pack.{linesIn};
-ghost use Rattle.paper.specs.Conditions.{sight, view, holdsIn, holds, formRules, paymentRules, authRules, summaryRules, rulesOf};
-ghost use Rattle.rules.specs.Hits.{hitsOf};
+ghost use Rattle.paper.specs.Conditions.{sight, view, formHolds, paymentHolds, authHolds, summaryHolds, holds, formRules, paymentRules, authRules, summaryRules, unknownRules, rulesOf};
+ghost use Rattle.rules.specs.Hits.{hitsOf, hitsBy};
 
 const FORM: [u32; 38] = [
     1,
@@ -160,105 +159,146 @@ const SUMMARY: [u32; 44] = [
     2900014,
 ];
 
-fn form_rule(i: usize) -> u32
-    requires { ⌜ i < 38 ⌝ }
-    ensures { λ r. ⌜ r ≡ getD formRules i 0 ⌝ }
-{
-    FORM[i]
+// Rules of one record, in order.
+pub struct Hits {
+    pub rules: [u32; 44],
+    pub n: usize,
 }
 
-fn payment_rule(i: usize) -> u32
-    requires { ⌜ i < 14 ⌝ }
-    ensures { λ r. ⌜ r ≡ getD paymentRules i 0 ⌝ }
-{
-    PAYMENT[i]
-}
-
-fn auth_rule(i: usize) -> u32
-    requires { ⌜ i < 43 ⌝ }
-    ensures { λ r. ⌜ r ≡ getD authRules i 0 ⌝ }
-{
-    AUTH[i]
-}
-
-fn summary_rule(i: usize) -> u32
-    requires { ⌜ i < 44 ⌝ }
-    ensures { λ r. ⌜ r ≡ getD summaryRules i 0 ⌝ }
-{
-    SUMMARY[i]
-}
-
-fn count_of(kind: Kind) -> usize
-    ensures { λ n. ⌜ (n ≡ length (rulesOf kind)) × (n ≤ 44) ⌝ }
-{
-    match kind {
-        Kind::Form => 38,
-        Kind::Payment => 14,
-        Kind::Auth => 43,
-        Kind::Summary => 44,
-        Kind::Unknown => 1,
-        Kind::TranA => 0,
-        Kind::TranB => 0,
-        Kind::Recap => 0,
-        Kind::Stray => 0,
-    }
-}
-
-fn rule_at(kind: Kind, i: usize) -> u32
-    requires { ⌜ i < length (rulesOf kind) ⌝ }
-    ensures { λ r. ⌜ r ≡ getD (rulesOf kind) i 0 ⌝ }
-{
-    match kind {
-        Kind::Form => form_rule(i),
-        Kind::Payment => payment_rule(i),
-        Kind::Auth => auth_rule(i),
-        Kind::Summary => summary_rule(i),
-        Kind::Unknown => 44,
-        Kind::TranA => 0,
-        Kind::TranB => 0,
-        Kind::Recap => 0,
-        Kind::Stray => 0,
-    }
-}
-
-// Whether a rule of the record's kind is broken.
-fn is_broken(
-    kind: Kind,
-    rule: u32,
+// The rules that each kind of record breaks, in their order.
+fn of_form(
     form: &[u8],
-    own: &[u8],
     payer: &[u8],
     spouse: &[u8],
-    bank: &[u8],
     zips: &[u8],
     dsn: &[u8],
     dcn: &[u8],
     date: &[u8],
     whole: Facts,
-    pays: usize,
-    aths: usize,
-) -> bool
-    ensures { λ r. ⌜ r ≡ holds kind (view (sight (now (form .entry)) (now (payer .entry)) (now (spouse .entry)) (linesIn 8 (now (zips .entry))) (now (dsn .entry)) (now (dcn .entry)) (now (date .entry)) whole) (now (own .entry)) (now (bank .entry)) pays aths) rule ⌝ }
+) -> Hits
+    ensures { λ r. ⌜ r ≡ hitsBy (λ n code. formHolds n code (sight (now (form .entry)) (now (payer .entry)) (now (spouse .entry)) (linesIn 8 (now (zips .entry))) (now (dsn .entry)) (now (dcn .entry)) (now (date .entry)) whole)) formRules ⌝ }
 {
-    let n = rule / 10000;
-    let code = rule % 10000;
-    match kind {
-        Kind::Form => form::holds(n, code, form, payer, spouse, zips, dsn, dcn, date, whole),
-        Kind::Payment => payment::holds(n, code, form, own, bank, pays),
-        Kind::Auth => auth::holds(n, code, form, own, payer, spouse, whole, aths),
-        Kind::Summary => summary::holds(n, code, form, own),
-        Kind::Unknown => true,
-        Kind::TranA => false,
-        Kind::TranB => false,
-        Kind::Recap => false,
-        Kind::Stray => false,
+    let table = FORM;
+    let mut hits = Hits {
+        rules: [0u32; 44],
+        n: 0,
+    };
+    let mut i: usize = 0;
+    while i < 38 {
+        let rule = table[i];
+        if form::holds(
+            rule / 10000,
+            rule % 10000,
+            form,
+            payer,
+            spouse,
+            zips,
+            dsn,
+            dcn,
+            date,
+            whole,
+        ) {
+            let k = hits.n;
+            hits.rules[k] = rule;
+            hits.n = k + 1;
+        }
+        i += 1;
+    }
+    hits
+}
+
+fn of_payment(form: &[u8], own: &[u8], bank: &[u8], pays: usize) -> Hits
+    ensures { λ r. ⌜ r ≡ hitsBy (λ n code. paymentHolds n code (now (form .entry)) (now (own .entry)) (now (bank .entry)) pays) paymentRules ⌝ }
+{
+    let table = PAYMENT;
+    let mut hits = Hits {
+        rules: [0u32; 44],
+        n: 0,
+    };
+    let mut i: usize = 0;
+    while i < 14 {
+        let rule = table[i];
+        if payment::holds(rule / 10000, rule % 10000, form, own, bank, pays) {
+            let k = hits.n;
+            hits.rules[k] = rule;
+            hits.n = k + 1;
+        }
+        i += 1;
+    }
+    hits
+}
+
+fn of_auth(form: &[u8], own: &[u8], payer: &[u8], spouse: &[u8], whole: Facts, aths: usize) -> Hits
+    ensures { λ r. ⌜ r ≡ hitsBy (λ n code. authHolds n code (now (form .entry)) (now (own .entry)) (now (payer .entry)) (now (spouse .entry)) whole aths) authRules ⌝ }
+{
+    let table = AUTH;
+    let mut hits = Hits {
+        rules: [0u32; 44],
+        n: 0,
+    };
+    let mut i: usize = 0;
+    while i < 43 {
+        let rule = table[i];
+        if auth::holds(
+            rule / 10000,
+            rule % 10000,
+            form,
+            own,
+            payer,
+            spouse,
+            whole,
+            aths,
+        ) {
+            let k = hits.n;
+            hits.rules[k] = rule;
+            hits.n = k + 1;
+        }
+        i += 1;
+    }
+    hits
+}
+
+fn of_summary(form: &[u8], own: &[u8]) -> Hits
+    ensures { λ r. ⌜ r ≡ hitsBy (λ n code. summaryHolds n code (now (form .entry)) (now (own .entry))) summaryRules ⌝ }
+{
+    let table = SUMMARY;
+    let mut hits = Hits {
+        rules: [0u32; 44],
+        n: 0,
+    };
+    let mut i: usize = 0;
+    while i < 44 {
+        let rule = table[i];
+        if summary::holds(rule / 10000, rule % 10000, form, own) {
+            let k = hits.n;
+            hits.rules[k] = rule;
+            hits.n = k + 1;
+        }
+        i += 1;
+    }
+    hits
+}
+
+// Of a kind that has no rules.
+fn none() -> Hits
+    ensures { λ r. ⌜ r ≡ hitsOf [] ⌝ }
+{
+    Hits {
+        rules: [0u32; 44],
+        n: 0,
     }
 }
 
-// Rules of one record, in order.
-pub struct Hits {
-    pub rules: [u32; 44],
-    pub n: usize,
+// Of a record of no known kind: its one rule.
+fn of_unknown() -> Hits
+    ensures { λ r. ⌜ r ≡ hitsOf unknownRules ⌝ }
+{
+    let mut hits = Hits {
+        rules: [0u32; 44],
+        n: 1,
+    };
+    hits.rules[0] = 44;
+    hits
 }
 
 // The rules that a record of a document breaks: form is the document's first record; payer and spouse are the taxpayer lines of 0090 and
@@ -281,35 +321,15 @@ pub fn broken(
 ) -> Hits
     ensures { λ r. ⌜ r ≡ hitsOf (those (holds kind (view (sight (now (form .entry)) (now (payer .entry)) (now (spouse .entry)) (linesIn 8 (now (zips .entry))) (now (dsn .entry)) (now (dcn .entry)) (now (date .entry)) whole) (now (own .entry)) (now (bank .entry)) pays aths)) (rulesOf kind)) ⌝ }
 {
-    let n = count_of(kind);
-    let mut hits = Hits {
-        rules: [0u32; 44],
-        n: 0,
-    };
-    let mut i: usize = 0;
-    while i < n {
-        let rule = rule_at(kind, i);
-        if is_broken(
-            kind,
-            rule,
-            form,
-            own,
-            payer,
-            spouse,
-            bank,
-            zips,
-            dsn,
-            dcn,
-            date,
-            whole,
-            pays,
-            aths,
-        ) {
-            let k = hits.n;
-            hits.rules[k] = rule;
-            hits.n = k + 1;
-        }
-        i += 1;
+    match kind {
+        Kind::Form => of_form(form, payer, spouse, zips, dsn, dcn, date, whole),
+        Kind::Payment => of_payment(form, own, bank, pays),
+        Kind::Auth => of_auth(form, own, payer, spouse, whole, aths),
+        Kind::Summary => of_summary(form, own),
+        Kind::Unknown => of_unknown(),
+        Kind::TranA => none(),
+        Kind::TranB => none(),
+        Kind::Recap => none(),
+        Kind::Stray => none(),
     }
-    hits
 }
