@@ -1,4 +1,5 @@
 pub mod Rejection
+pub mod Back
 pub mod Onward
 pub mod Tour
 pub mod Room

@@ -2,7 +2,7 @@
 use mathlib.Core.Path.{_≡_, refl, sym, ap, _∙_, subst}
 use mathlib.Core.Bool.{Bool, true, false}
 use mathlib.Core.List.{List, [], _∷_, map}
-use Prim.Native.Nat.{ℕ, zero, suc, _+_, _-_, _*_, _≤_, _<_}
+use Prim.Native.Nat.{ℕ, zero, suc, _+_, _-_, _*_, _≤_, _<_, min}
 use native.Mathlib.Omega.{arith}
 use native.Mathlib.Nat.{add-sub-cancel-left}
 use lib.ListN.{length, take, drop, length-take}
@@ -27,10 +27,12 @@ use Rattle.walk.proofs.Docs.{doc-spans, facts-size, passed}
 use Rattle.judge.specs.declared.Past.{Past}
 use Rattle.judge.specs.Judged.{judgmentOf}
 use Rattle.judge.specs.Seen.{seenBy, nextPast}
+use Rattle.judge.specs.Kept.{listed}
 use Rattle.judge.proofs.Kept.{Keeps}
 use Rattle.judge.proofs.Seen.{form-main, form-size, leaves-after, next-few}
-use Rattle.judge.proofs.Ties.{judged-keeps, judged-set, judged-letter, judged-facts, accepted-long}
-use Rattle.sets.specs.Set.{setAs}
+use Rattle.judge.proofs.Ties.{judged-keeps, judged-letter, judged-facts, accepted-long}
+use Rattle.sets.specs.Set.{foundBy, firsts, setAs}
+use Rattle.ack.proofs.Back.{row-findings}
 use Rattle.ack.specs.Ties.{here, ahead, Going}
 
 -- THE OPENING RECORD'S FIELDS, read in the bytes that it starts
@@ -101,12 +103,15 @@ module _ (L : Lines) (date t : Bytes) (at : ℕ) (p : Past) (g : Going t at p) (
       let long : 384 ≤ at + size - at = omega (arith, sized, form-size t at (d .main) h' refl) in
       field-take (at + size - at) k s long ∙ sym (field-take 384 k s (omega arith)) ∙ ap (field L4868 k) (sym (form-main s h'))
 
-  pub set-here : setAs (take (at + size - at) s) date j ≡ setOf T
-  unfolding setAs
-  set-here =
-      set-main (take (at + size - at) s) (d .main) (take (at + size - at) s) (j .known) date (j .letter) (j .facts) (take (j .found .kept) (j .found .list)) (j .found .ath) same-fields
-      ∙ ap (λ (x : Bytes). setBy (d .main) x (j .known) date (j .letter) (j .facts) (take (j .found .kept) (j .found .list)) (j .found .ath)) doc-is
-      ∙ judged-set T j ej
+  -- of the row of findings, as the call left it
+  pub set-here : (row x : List (List ℕ)) → length row ≡ 96 → x ≡ listed row (findings T) → setAs (take (at + size - at) s) date j x ≡ setOf T
+  unfolding setAs judgmentOf setOf
+  set-here row x w e =
+      let found = map foundBy (firsts (min (j .found .kept) 96) x) in
+      let finds : found ≡ take 96 (findings T) = row-findings T row x (j .found) w e (ap (λ (y : Judgment). y .found) ej) kept-few in
+      set-main (take (at + size - at) s) (d .main) (take (at + size - at) s) (j .known) date (j .letter) (j .facts) found (j .found .ath) same-fields
+      ∙ ap (λ (y : Bytes). setBy (d .main) y (j .known) date (j .letter) (j .facts) found (j .found .ath)) doc-is
+      ∙ (λ i. setBy (d .main) (bytesOf d) (ej i .known) date (ej i .letter) (ej i .facts) (finds i) (keeps .ath i))
 
   pub set-size : length (setOf T) ≡ 120 + 120 * j .found .kept
   unfolding setOf

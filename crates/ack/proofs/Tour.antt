@@ -9,7 +9,7 @@ use Rattle.paper.specs.declared.Letter.{Letter}
 use Rattle.paper.specs.Bytes.{Bytes, bit}
 use Rattle.paper.specs.Pack.{Lines}
 use Rattle.paper.specs.Walk.{records, sound, Doc, docsOf}
-use Rattle.paper.specs.Judge.{Before, Turn, start, turns, asked, letterOf, isA}
+use Rattle.paper.specs.Judge.{Before, Turn, start, turns, asked, findings, letterOf, isA}
 use Rattle.paper.specs.File.{laid, setOf, acceptedIn}
 use Rattle.walk.specs.declared.Outer.the-variants.{Sound}
 use Rattle.walk.specs.Shape.{shapeOf}
@@ -18,6 +18,7 @@ use Rattle.walk.proofs.Sound.{sound-parts}
 use Rattle.walk.proofs.Loops.{shape-sound}
 use Rattle.walk.proofs.Docs.{docs-few}
 use Rattle.judge.specs.declared.Past.{Past}
+use Rattle.judge.specs.Kept.{listed}
 use Rattle.judge.specs.Judged.{judgmentOf}
 use Rattle.judge.specs.Seen.{noPast, seenBy, nextPast}
 use Rattle.judge.proofs.Seen.{starts-empty}
@@ -178,18 +179,18 @@ module _ (L : Lines) (date t : Bytes) where
       abbrev filled : Bytes → Bytes
       filled new = take to out ++ (new ++ drop (length out - to) (drop to out))
 
-      pub write-on : (q : Past) (one : ℕ) (new : Bytes) → q ≡ nextPast t at (j .letter) p → one ≡ bit (isA (j .letter)) → one ≤ 1
+      pub write-on : (row x : List (List ℕ)) → length row ≡ 96 → x ≡ listed row (findings (here L date t at p)) → (q : Past) (one : ℕ) (new : Bytes) → q ≡ nextPast t at (j .letter) p → one ≡ bit (isA (j .letter)) → one ≤ 1
           → 240 + length (setsIn (turnsIn L date t)) ≤ length out₀
-          → new ≡ laid (take (length out - to) (drop to out)) 0 (setAs (take (at + j .facts .size - at) (drop at t)) date j)
+          → new ≡ laid (take (length out - to) (drop to out)) 0 (setAs (take (at + j .facts .size - at) (drop at t)) date j x)
           → Writing n out₀ q (at + j .facts .size) (to + (120 + 120 * j .found .kept)) (acc + one) (i + 1) (filled new)
-      write-on q one new eq eo lo f e =
+      write-on row x w ex q one new eq eo lo f e =
           let T = here L date t at p in
           let ts = ahead L date t (at + j .facts .size) q in
           let g = o .tour .going in
           let size : length (setOf T) ≡ 120 + 120 * j .found .kept = set-size L date t at p g m j ej in
           let fits : to + length (setOf T) ≤ length out = omega (arith, write-fits f .0) in
           let set : filled new ≡ laid out to (setOf T) =
-          lent-laid out (setOf T) new to (length out - to) refl fits (e ∙ ap (laid (take (length out - to) (drop to out)) 0) (set-here L date t at p g m j ej)) in
+          lent-laid out (setOf T) new to (length out - to) refl fits (e ∙ ap (laid (take (length out - to) (drop to out)) 0) (set-here L date t at p g m j ej row x w ex)) in
           let next : to + (120 + 120 * j .found .kept) ≡ to + length (setOf T) = omega arith in
           let turn : ahead L date t at p ≡ T ∷ ts = tour-turn n i at p (o .tour) h j ej q eq in
           record {

@@ -143,12 +143,23 @@ fn need(
     requires { ⌜ Begins (now t) n ⌝ }
     ensures { λ r. ⌜ (r ≡ length (setsIn (turnsIn (searched (now (taxpayers .entry)) (now (banks .entry)) (now (filed .entry)) (now (states .entry))) (now (date .entry)) (now (t .entry))))) × (r ≤ 762839040) ⌝ }
 {
+    let mut list = [[0usize; 3]; 96];
     let mut before = judge::no_past();
     let mut at: usize = 240;
     let mut size: usize = 0;
     let mut i: usize = 0;
     while i < n {
-        let j = judge::judge(t, at, taxpayers, banks, filed, states, date, before);
+        let j = judge::judge(
+            t,
+            at,
+            taxpayers,
+            banks,
+            filed,
+            states,
+            date,
+            before,
+            &mut list,
+        );
         let letter = j.letter;
         size += 120 + 120 * j.found.kept;
         before = judge::pass(t, at, before, letter);
@@ -208,16 +219,27 @@ fn write_sets(
     requires { ⌜ Begins (now t) n × (240 + length (setsIn (turnsIn (searched (now taxpayers) (now banks) (now filed) (now states)) (now date) (now t))) ≤ length (now out)) ⌝ }
     ensures { λ d. ⌜ Written (turnsIn (searched (now (taxpayers .entry)) (now (banks .entry)) (now (filed .entry)) (now (states .entry))) (now (date .entry)) (now (t .entry))) 240 (now (out .entry)) (now (out .exit)) d ⌝ }
 {
+    let mut list = [[0usize; 3]; 96];
     let mut past = judge::no_past();
     let mut at: usize = 240;
     let mut to: usize = 240;
     let mut accepted: usize = 0;
     let mut i: usize = 0;
     while i < n {
-        let j = judge::judge(t, at, taxpayers, banks, filed, states, date, past);
+        let j = judge::judge(
+            t,
+            at,
+            taxpayers,
+            banks,
+            filed,
+            states,
+            date,
+            past,
+            &mut list,
+        );
         let letter = j.letter;
         let end = at + j.facts.size;
-        sets::put_set(&mut out[to..], &t[at..end], date, j);
+        sets::put_set(&mut out[to..], &t[at..end], date, j, &list);
         to += 120 + 120 * j.found.kept;
         accepted += one_if(letter);
         past = judge::pass(t, at, past, letter);

@@ -22,7 +22,7 @@ use Rattle.walk.proofs.Records.{kind-fits}
 use Rattle.walk.proofs.Loops.{isRecord, Stepped, as-part, own-on, own-stop, own-none, own-end}
 use Rattle.rules.specs.declared.Hits.{Hits}
 use Rattle.rules.specs.Hits.{hitsOf}
-use Rattle.judge.specs.Kept.{noFindings, keptOf, added}
+use Rattle.judge.specs.Kept.{noFindings, Held, held, keptOf, added}
 use Rattle.judge.specs.Judged.{bankFor, itemIn, itemsIn, hitsIn}
 use Rattle.judge.proofs.Kept.{added-nil, added-none, added-append}
 
@@ -54,14 +54,14 @@ hits-are h l e few =
     let row : length {A = ℕ} (replicate 44 0) ≡ 44 = length-replicate {A = ℕ} 44 0 in
     (λ i. take (e i .n) (e i .rules)) ∙ ap (take (length l)) (sets-eq l (replicate 44 0) 0 (omega arith)) ∙ take-at l (drop (0 + length l) (replicate 44 0)) (length l) refl
 
-module _ (k : Kind) (v : View) (place : ℕ) (h : Hits) (f : Findings) (e : h ≡ hitsIn k v) where
+module _ (k : Kind) (v : View) (place : ℕ) (h : Hits) (f : Held) (e : h ≡ hitsIn k v) where
   pub hits-few : h .n ≤ length (rulesOf k)
   hits-few = rw e (those-few (holds k v) (rulesOf k))
 
   pub hits-44 : h .n ≤ 44
   hits-44 = omega (arith, hits-few, few-rules k)
 
-  pub record-found : (r : Findings) → r ≡ added f (map (mark k place) (take (h .n) (h .rules))) → r ≡ added f (findsIn k place v)
+  pub record-found : (r : Held) → r ≡ added f (map (mark k place) (take (h .n) (h .rules))) → r ≡ added f (findsIn k place v)
   record-found r q =
       q ∙ ap (λ (l : List ℕ). added f (map (mark k place) l)) (hits-are h (those (holds k v) (rulesOf k)) e (omega (arith, those-few (holds k v) (rulesOf k), few-rules k)))
 
@@ -76,12 +76,12 @@ pub found-few : (k : Kind) (place : ℕ) (v : View) → length (findsIn k place 
 found-few k place v = omega (arith, length-map (those (holds k v) (rulesOf k)) (mark k place), those-few (holds k v) (rulesOf k), few-rules k)
 
 -- of a document's first record
-module _ (k : Kind) (v : View) (h : Hits) (f : Findings) (e : h ≡ hitsIn k v) (none : f ≡ noFindings) where
-  pub first-found : (r : Findings) → r ≡ added f (map (mark k 0) (take (h .n) (h .rules))) → r ≡ keptOf (findsIn k 0 v)
-  first-found r q = record-found k v 0 h f e r q ∙ ap (λ (x : Findings). added x (findsIn k 0 v)) none ∙ added-none (findsIn k 0 v)
+module _ (k : Kind) (v : View) (h : Hits) (row : List (List ℕ)) (f : Findings) (e : h ≡ hitsIn k v) (none : f ≡ noFindings) where
+  pub first-found : (r : Held) → r ≡ added (held row f) (map (mark k 0) (take (h .n) (h .rules))) → r ≡ keptOf row (findsIn k 0 v)
+  first-found r q = record-found k v 0 h (held row f) e r q ∙ ap (λ (x : Findings). added (held row x) (findsIn k 0 v)) none ∙ added-none row (findsIn k 0 v)
 
-  pub first-clean : h .n ≤ 0 → f ≡ keptOf (findsIn k 0 v)
-  first-clean n = record-clean k v 0 h f e n ∙ ap (λ (x : Findings). added x (findsIn k 0 v)) none ∙ added-none (findsIn k 0 v)
+  pub first-clean : h .n ≤ 0 → held row f ≡ keptOf row (findsIn k 0 v)
+  first-clean n = record-clean k v 0 h (held row f) e n ∙ ap (λ (x : Findings). added (held row x) (findsIn k 0 v)) none ∙ added-none row (findsIn k 0 v)
 
 pub none-all : (f : Findings) → f ≡ noFindings → f .all ≡ 0
 unfolding noFindings
@@ -114,8 +114,8 @@ abbrev left : Bytes → Sight → Bytes → ℕ → ℕ → ℕ → ℕ → List
 left banks s t at pays aths to = findsFrom s (to - at) pays aths (itemsIn banks (records (drop to t)))
 
 -- at the place to: what is left, added, gives what is to be found in all
-module _ (banks : Bytes) (s : Sight) (t : Bytes) (at : ℕ) (w : Findings) where
-  pub record Ran (found : Findings) (pays aths to : ℕ) : Type 0 where
+module _ (banks : Bytes) (s : Sight) (t : Bytes) (at : ℕ) (w : Held) where
+  pub record Ran (found : Held) (pays aths to : ℕ) : Type 0 where
     pub within : to ≤ length t
     pub after : at ≤ to
     pub few : found .all ≤ to
@@ -123,7 +123,7 @@ module _ (banks : Bytes) (s : Sight) (t : Bytes) (at : ℕ) (w : Findings) where
     pub few-aths : aths ≤ to
     pub same : added found (left banks s t at pays aths to) ≡ w
 
-pub ran-start : (banks : Bytes) (s : Sight) (t : Bytes) (at n : ℕ) (first : Findings) → at + n ≤ length t → first .all ≤ at + n
+pub ran-start : (banks : Bytes) (s : Sight) (t : Bytes) (at n : ℕ) (first : Held) → at + n ≤ length t → first .all ≤ at + n
     → Ran banks s t at (added first (findsFrom s n 0 0 (itemsIn banks (records (drop (at + n) t))))) first 0 0 (at + n)
 ran-start banks s t at n first h few = record {
   within = h;
@@ -134,7 +134,7 @@ ran-start banks s t at n first h few = record {
   same = ap (λ (k : ℕ). added first (findsFrom s k 0 0 (itemsIn banks (records (drop (at + n) t))))) (add-sub-cancel-left at n);
 }
 
-module _ (banks : Bytes) (s : Sight) (t : Bytes) (at : ℕ) (w found : Findings) (pays aths to : ℕ) (i : Ran banks s t at w found pays aths to) where
+module _ (banks : Bytes) (s : Sight) (t : Bytes) (at : ℕ) (w found : Held) (pays aths to : ℕ) (i : Ran banks s t at w found pays aths to) where
   stopped : own (records (drop to t)) ≡ [] → found ≡ w
   stopped o = sym (added-nil found) ∙ ap (λ (x : List Bytes). added found (findsFrom s (to - at) pays aths (map (itemIn banks) x))) (sym o) ∙ i .same
 
@@ -168,12 +168,12 @@ module _ (banks : Bytes) (s : Sight) (t : Bytes) (at : ℕ) (w found : Findings)
           (hits-44 k v 0 h found eh, omega (arith, few, rules-fit r (omega (arith, size, p .some)), size, i .few))
 
       -- what is left after it
-      on : (g : Findings) → not b ≡ false → g ≡ added found (findsIn k (to - at) v) → added g (left banks s t at (pays + bit (is Payment k)) (aths + bit (is Auth k)) (to + n)) ≡ w
+      on : (g : Held) → not b ≡ false → g ≡ added found (findsIn k (to - at) v) → added g (left banks s t at (pays + bit (is Payment k)) (aths + bit (is Auth k)) (to + n)) ≡ w
       on g o e =
           let rs = records (drop (to + n) t) in
           let place : to + n - at ≡ to - at + length r = omega (arith, size, i .after) in
           let mine : r ∷ own rs ≡ own (records (drop to t)) = ap (λ (x : Bytes). x ∷ own rs) (as-part t to n) ∙ sym (own-on t to n p (goes ∙ not-false b o)) in
-          ap (λ (x : Findings). added x (left banks s t at (pays + bit (is Payment k)) (aths + bit (is Auth k)) (to + n))) e
+          ap (λ (x : Held). added x (left banks s t at (pays + bit (is Payment k)) (aths + bit (is Auth k)) (to + n))) e
           ∙ added-append found _ _
           ∙ (λ j. added found (findsIn (ek j) (to - at) (view s r (bankFor banks (ek j) r) pays aths)
           ++ findsFrom s (place j) (pays + bit (is Payment (ek j))) (aths + bit (is Auth (ek j))) (itemsIn banks rs)))
@@ -181,7 +181,7 @@ module _ (banks : Bytes) (s : Sight) (t : Bytes) (at : ℕ) (w found : Findings)
           ∙ i .same
 
       -- one record on; g are the findings with its own
-      pub ran-on : (g : Findings) (pp pa : Bool) (np na : ℕ) → not b ≡ false
+      pub ran-on : (g : Held) (pp pa : Bool) (np na : ℕ) → not b ≡ false
           → (g ≡ added found (map (mark k (to - at)) (take (h .n) (h .rules)))) ⊎ ((h .n ≤ 0) × (g ≡ found))
           → pp ≡ is Payment k → np ≡ bit pp → pa ≡ is Auth k → na ≡ bit pa → Ran banks s t at w g (pays + np) (aths + na) (to + n)
       unfolding added
@@ -189,7 +189,7 @@ module _ (banks : Bytes) (s : Sight) (t : Bytes) (at : ℕ) (w found : Findings)
           let e : g ≡ added found (findsIn k (to - at) v) =
           ⊎-elim (λ q. record-found k v (to - at) h found eh g q) (λ q. q .1 ∙ record-clean k v (to - at) h found eh (q .0)) came in
           let len : length (findsIn k (to - at) v) ≡ h .n = length-map (those (holds k v) (rulesOf k)) (mark k (to - at)) ∙ ap (λ (x : Hits). x .n) (sym eh) in
-          let all : g .all ≡ found .all + length (findsIn k (to - at) v) = ap (λ (x : Findings). x .all) e in
+          let all : g .all ≡ found .all + length (findsIn k (to - at) v) = ap (λ (x : Held). x .all) e in
           let p1 : np ≡ bit (is Payment k) = enp ∙ ap bit ep in
           let a1 : na ≡ bit (is Auth k) = ena ∙ ap bit ea in
           record {

@@ -36,16 +36,6 @@ pub judged-keeps : (t : Turn) (j : Judgment) → j ≡ judgmentOf t → Keeps (j
 unfolding judgmentOf
 judged-keeps t j e = subst (λ (x : Judgment). Keeps (x .found) (findings t)) (sym e) (keeps (findings t))
 
--- the record set from the judgment alone
-pub judged-set : (t : Turn) (j : Judgment) → j ≡ judgmentOf t
-    → setBy (t .subject .doc .main) (bytesOf (t .subject .doc)) (j .known) (t .date) (j .letter) (j .facts) (take (j .found .kept) (j .found .list)) (j .found .ath) ≡ setOf t
-unfolding judgmentOf setOf
-judged-set t j e =
-    let m = t .subject .doc .main in
-    let d = bytesOf (t .subject .doc) in
-    (λ i. setBy m d (e i .known) (t .date) (e i .letter) (e i .facts) (take (e i .found .kept) (e i .found .list)) (e i .found .ath))
-    ∙ (λ i. setBy m d (known (t .subject .doc)) (t .date) (letterOf t) (sightOf t .whole) (keeps (findings t) .first i) (keeps (findings t) .ath i))
-
 pub judged-letter : (t : Turn) (j : Judgment) → j ≡ judgmentOf t → j .letter ≡ letterOf t
 unfolding judgmentOf
 judged-letter t j e = ap (λ (x : Judgment). x .letter) e

@@ -28,7 +28,7 @@ use Rattle.walk.specs.Parts.{docHere}
 use Rattle.walk.proofs.Sound.{is-eq}
 use Rattle.lookup.specs.Find.{countFor, placeFor, keyAt, lineIn, rowsIn}
 use Rattle.judge.specs.declared.Past.{Past}
-use Rattle.judge.specs.Kept.{noFindings, keptOf, added}
+use Rattle.judge.specs.Kept.{noFindings, Held, held, listed, counted, keptOf, added}
 use Rattle.judge.specs.Seen.{atPlace, seenBy}
 use Rattle.judge.specs.Judged.{oneLine, searched, bankFor, itemIn, itemsIn, formFinds, sightIn, letterFor, judgmentOf}
 use Rattle.judge.proofs.Kept.{added-none, added-append}
@@ -67,16 +67,16 @@ module _ (t : Bytes) (all : ℕ) (filed form : Bytes) (p : Past) where
 
 -- THE FINDINGS OF A 4868 DOCUMENT
 
-pub first-few : (k : Kind) (v : View) (f : Findings) → f ≡ keptOf (findsIn k 0 v) → f .all ≤ 44
-unfolding keptOf
-first-few k v f e = rw (ap (λ (x : Findings). x .all) e) (found-few k 0 v)
+pub first-few : (k : Kind) (v : View) (row x : List (List ℕ)) (f : Findings) → held x f ≡ keptOf row (findsIn k 0 v) → f .all ≤ 44
+unfolding counted
+first-few k v row x f e = rw (ap (λ (h : Held). h .all) e) (found-few k 0 v)
 
 module _
-    (form taxpayers banks states dsn dcn date : Bytes) (whole : Facts) (rs : List Bytes) (f90 f100 f60 payer spouse zips : Bytes) (first r : Findings)
+    (form taxpayers banks states dsn dcn date : Bytes) (whole : Facts) (rs : List Bytes) (f90 f100 f60 payer spouse zips : Bytes) (row : List (List ℕ)) (first r : Held)
     (e90 : f90 ≡ field L4868 90 form) (e-payer : payer ≡ lineIn 33 f90 taxpayers)
     (e100 : f100 ≡ field L4868 100 form) (e-spouse : spouse ≡ lineIn 33 f100 taxpayers)
     (e60 : f60 ≡ field L4868 60 form) (e-zips : zips ≡ rowsIn 8 f60 states)
-    (e-first : first ≡ keptOf (findsIn Form 0 (view (sight form payer spouse (linesIn 8 zips) dsn dcn date whole) form [] 0 0)))
+    (e-first : first ≡ keptOf row (findsIn Form 0 (view (sight form payer spouse (linesIn 8 zips) dsn dcn date whole) form [] 0 0)))
     (e-others : r ≡ added first (findsFrom (sight form payer spouse (linesIn 8 zips) dsn dcn date whole) (length form) 0 0 (itemsIn banks rs))) where
   seen-is : sight form payer spouse (linesIn 8 zips) dsn dcn date whole ≡ sightIn form taxpayers states dsn dcn date whole
   unfolding sightIn
@@ -86,13 +86,13 @@ module _
       let z : zips ≡ rowsIn 8 (field L4868 60 form) states = e-zips ∙ ap (λ (k : Bytes). rowsIn 8 k states) e60 in
       λ i. sight form (p i) (s i) (linesIn 8 (z i)) dsn dcn date whole
 
-  pub form-found : r ≡ keptOf (formFinds (sightIn form taxpayers states dsn dcn date whole) form banks rs)
+  pub form-found : r ≡ keptOf row (formFinds (sightIn form taxpayers states dsn dcn date whole) form banks rs)
   form-found =
       let s = sight form payer spouse (linesIn 8 zips) dsn dcn date whole in
       let a = findsIn Form 0 (view s form [] 0 0) in
       let o = findsFrom s (length form) 0 0 (itemsIn banks rs) in
-      e-others ∙ ap (λ (x : Findings). added x o) (e-first ∙ sym (added-none a)) ∙ added-append noFindings a o ∙ added-none (a ++ o)
-      ∙ ap (λ (x : Sight). keptOf (formFinds x form banks rs)) seen-is
+      e-others ∙ ap (λ (x : Held). added x o) (e-first ∙ sym (added-none row a)) ∙ added-append (held row noFindings) a o ∙ added-none row (a ++ o)
+      ∙ ap (λ (x : Sight). keptOf row (formFinds x form banks rs)) seen-is
 
 -- WHAT THE PACK SAYS OF A DOCUMENT
 
@@ -143,8 +143,8 @@ empty-eqb : {A : Type 0} (l : List A) → eqb (length l) 0 ≡ empty l
 empty-eqb [] = refl
 empty-eqb (x ∷ l) = ne-eqb (suc (length l)) 0 (λ e. omega arith)
 
-kept-all : (l : List Found) → keptOf l .all ≡ length l
-unfolding keptOf
+kept-all : (l : List Found) → counted l .all ≡ length l
+unfolding counted
 kept-all l = refl
 
 -- THE JUDGMENT
@@ -154,7 +154,7 @@ module _ (t date : Bytes) (at : ℕ) (p : Past) (b : Bool) (L : Lines) (form fil
     (e-form : form ≡ docHere (drop at t) .main)
     (e-facts : facts ≡ factsOf (docRecords (drop at t)))
     (e-done : lineIn 9 (field L4868 90 (docHere (drop at t) .main)) filed ≡ firstOr (ifKnown b L 3 (ssnOf (docHere (drop at t)))))
-    (e-found : found ≡ keptOf (findings (turn date (seenBy t p) (caseIf b L (docHere (drop at t))))))
+    (e-found : found ≡ counted (findings (turn date (seenBy t p) (caseIf b L (docHere (drop at t))))))
     (e-letter : letter ≡ letterFor t (found .all) filed form p) where
   abbrev T : Turn
   T = turn date (seenBy t p) (caseIf b L (docHere (drop at t)))
@@ -180,7 +180,7 @@ module _ (t taxpayers banks filed states date : Bytes) (at : ℕ) (p : Past) (fo
     (e-form : form ≡ docHere (drop at t) .main)
     (e-dsn : dsn ≡ atPlace 16 (p .dsn) t)
     (e-dcn : dcn ≡ atPlace 14 (p .dcn) t)
-    (e-found : found ≡ keptOf (formFinds (sightIn form taxpayers states dsn dcn date facts) form banks (records (drop (at + length form) t))))
+    (e-found : found ≡ counted (formFinds (sightIn form taxpayers states dsn dcn date facts) form banks (records (drop (at + length form) t))))
     (e-letter : letter ≡ letterFor t (found .all) filed form p) where
   abbrev d : Doc
   d = docHere (drop at t)
@@ -207,9 +207,9 @@ module _ (t taxpayers banks filed states date : Bytes) (at : ℕ) (p : Past) (fo
   kind : kindOf (d .main) ≡ Form
   kind = is-eq Form (kindOf (d .main)) k
 
-  finds-are : formFinds (sightIn form taxpayers states dsn dcn date facts) form banks (records (drop (at + length form) t)) ≡ findings K
+  form-finds : formFinds (sightIn form taxpayers states dsn dcn date facts) form banks (records (drop (at + length form) t)) ≡ findings K
   unfolding findings
-  finds-are =
+  form-finds =
       let z : length (d .main) ≡ 0 + length (d .main) = omega arith in
       let its : map (itemIn banks) (own (records (drop (at + length form) t))) ≡ map (itemOf S) (d .others) =
       ap (map (itemIn banks)) others-are ∙ items-are taxpayers banks filed states (d .others) in
@@ -217,10 +217,13 @@ module _ (t taxpayers banks filed states date : Bytes) (at : ℕ) (p : Past) (fo
       ∙ (λ i. findsIn (sym kind i) 0 (view (sightOf K) (d .main) [] 0 0)
       ++ findsFrom (sightOf K) (z i) (0 + bit (is Payment (sym kind i))) (0 + bit (is Auth (sym kind i))) (map (itemOf S) (d .others)))
 
+  pub listed-form : formFinds (sightIn form taxpayers states dsn dcn date facts) form banks (records (drop (at + length form) t)) ≡ findings (turn date (seenBy t p) (asked S (docHere (drop at t))))
+  listed-form = form-finds ∙ ap (λ (c : Case). findings (turn date (seenBy t p) c)) (sym (asked-if true S (docHere (drop at t)) k))
+
   pub judged-form : _≡_ {A = Judgment} (record { letter = letter; known = true; found = found; facts = facts }) (judgmentOf (turn date (seenBy t p) (asked (searched taxpayers banks filed states) (docHere (drop at t)))))
   judged-form =
       judged t date at p true S form filed facts found letter k e-form e-facts
-      (sym (searched-filed taxpayers banks filed states (ssnOf d))) (e-found ∙ ap keptOf finds-are) e-letter
+      (sym (searched-filed taxpayers banks filed states (ssnOf d))) (e-found ∙ ap counted form-finds) e-letter
 
 -- of any other: nothing is looked up, and nothing but the first record is judged
 line-none : (w : ℕ) (key : Bytes) → lineIn w key [] ≡ []
@@ -238,7 +241,7 @@ module _ (t taxpayers banks filed states date : Bytes) (at : ℕ) (p : Past) (fo
     (e-kind : kind ≡ kindOf form)
     (e-dsn : dsn ≡ atPlace 16 (p .dsn) t)
     (e-dcn : dcn ≡ atPlace 14 (p .dcn) t)
-    (e-found : found ≡ keptOf (findsIn kind 0 (view (sight form [] [] (linesIn 8 []) dsn dcn date facts) form [] 0 0)))
+    (e-found : found ≡ counted (findsIn kind 0 (view (sight form [] [] (linesIn 8 []) dsn dcn date facts) form [] 0 0)))
     (e-letter : letter ≡ letterFor t (found .all) [] form p) where
   abbrev e : Doc
   e = docHere (drop at t)
@@ -252,7 +255,10 @@ module _ (t taxpayers banks filed states date : Bytes) (at : ℕ) (p : Past) (fo
       (λ i. findsIn ((e-kind ∙ ap kindOf e-form) i) 0 (view (sight (e-form i) [] [] [] (e-dsn i) (e-dcn i) date (e-facts i)) (e-form i) [] 0 0))
       ∙ sym (append-nil (findsIn (kindOf (e .main)) 0 (view (sightOf N) (e .main) [] 0 0)))
 
+  pub listed-other : findsIn kind 0 (view (sight form [] [] (linesIn 8 []) dsn dcn date facts) form [] 0 0) ≡ findings (turn date (seenBy t p) (asked (searched taxpayers banks filed states) (docHere (drop at t))))
+  listed-other = first-finds ∙ ap (λ (c : Case). findings (turn date (seenBy t p) c)) (sym (asked-if false (searched taxpayers banks filed states) (docHere (drop at t)) k))
+
   pub judged-other : _≡_ {A = Judgment} (record { letter = letter; known = false; found = found; facts = facts }) (judgmentOf (turn date (seenBy t p) (asked (searched taxpayers banks filed states) (docHere (drop at t)))))
   judged-other =
       judged t date at p false (searched taxpayers banks filed states) form [] facts found letter k e-form e-facts
-      (line-none 9 (ssnOf e)) (e-found ∙ ap keptOf first-finds) e-letter
+      (line-none 9 (ssnOf e)) (e-found ∙ ap counted first-finds) e-letter

@@ -21,7 +21,7 @@ use Rattle.lookup.specs.Find.{lineIn, rowsIn}
 use Rattle.rules.specs.declared.Hits.{Hits}
 use Rattle.rules.specs.Hits.{hitsOf}
 use Rattle.judge.specs.declared.Past.{Past}
-use Rattle.judge.specs.Kept.{keptOf}
+use Rattle.judge.specs.Kept.{counted}
 use Rattle.judge.specs.Seen.{seenBy}
 
 -- a line, or none
@@ -72,6 +72,6 @@ unfoldable pub judgmentOf : Turn → Judgment
 judgmentOf t = record {
   letter = letterOf t;
   known = known (t .subject .doc);
-  found = keptOf (findings t);
+  found = counted (findings t);
   facts = factsOf (t .subject .doc .main ∷ t .subject .doc .others);
 }

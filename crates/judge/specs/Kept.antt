@@ -1,31 +1,48 @@
 -- The findings of a document as the code holds them. Assumes nothing.
-use Prim.Native.Nat.{_+_, _-_, min}
-use mathlib.Core.Bool.{false, _||_}
-use mathlib.Core.List.{List}
-use lib.ListN.{length, take, replicate}
+use Prim.Native.Nat.{ℕ, _+_, _-_, min}
+use mathlib.Core.Bool.{Bool, false, _||_}
+use mathlib.Core.List.{List, [], _∷_, map}
+use lib.ListN.{length, take}
 use lib.Seq.{sets}
 use Rattle.paper.specs.declared.Found.{Found}
 use Rattle.paper.specs.declared.Findings.{Findings}
-use Rattle.paper.specs.declared.Kind.the-variants.{Stray}
 use Rattle.paper.specs.Bytes.{any}
+use Rattle.paper.specs.Walk.{kindNumber}
 use Rattle.paper.specs.File.{onAuth}
 
--- what stands in the row where there is no finding
-abbrev pub noFound : Found
-noFound = record { place = 0; kind = Stray; rule = 0 }
-
 unfoldable pub noFindings : Findings
-noFindings = record { list = replicate 96 noFound; kept = 0; all = 0; ath = false }
+noFindings = record { kept = 0; all = 0; ath = false }
 
--- the first 96 at the front of the row, their number, the number of all, and whether an authentication has one
-unfoldable pub keptOf : List Found → Findings
-keptOf l = record { list = sets (replicate 96 noFound) 0 (take 96 l); kept = min 96 (length l); all = length l; ath = any onAuth l }
+-- what the row has of a finding: its place, its kind's number and its rule
+abbrev pub triple : Found → List ℕ
+triple f = f .place ∷ kindNumber (f .kind) ∷ f .rule ∷ []
+
+-- the row of findings with its numbers
+pub record Held : Type 0 where
+  pub list : List (List ℕ)
+  pub kept : ℕ
+  pub all : ℕ
+  pub ath : Bool
+
+abbrev pub held : List (List ℕ) → Findings → Held
+held row f = record { list = row; kept = f .kept; all = f .all; ath = f .ath }
+
+-- the first 96 at the front of the row
+unfoldable pub listed : List (List ℕ) → List Found → List (List ℕ)
+listed row l = sets row 0 (map triple (take 96 l))
+
+-- their number, the number of all, and whether an authentication has one
+unfoldable pub counted : List Found → Findings
+counted l = record { kept = min 96 (length l); all = length l; ath = any onAuth l }
+
+abbrev pub keptOf : List (List ℕ) → List Found → Held
+keptOf row l = held (listed row l) (counted l)
 
 -- these after those that are held
-unfoldable pub added : Findings → List Found → Findings
-added f l = record {
-  list = sets (f .list) (f .kept) (take (96 - f .kept) l);
-  kept = f .kept + length (take (96 - f .kept) l);
-  all = f .all + length l;
-  ath = f .ath || any onAuth l;
+unfoldable pub added : Held → List Found → Held
+added h l = record {
+  list = sets (h .list) (h .kept) (map triple (take (96 - h .kept) l));
+  kept = h .kept + length (take (96 - h .kept) l);
+  all = h .all + length l;
+  ath = h .ath || any onAuth l;
 }

@@ -1,7 +1,6 @@
 // One document's judgment: its letter, its findings and its facts; and what it leaves for the later ones to see.
 use paper::Facts;
 use paper::Findings;
-use paper::Found;
 use paper::Judgment;
 use paper::Kind;
 use paper::Layout;
@@ -17,9 +16,9 @@ ghost use Rattle.paper.specs.Bytes.{bit, digits, member};
 ghost use Rattle.paper.specs.Pack.{linesIn};
 ghost use Rattle.paper.specs.Walk.{records};
 ghost use Rattle.paper.specs.Conditions.{sight, view};
-ghost use Rattle.paper.specs.Judge.{mark, findsIn, findsFrom, isA, turn, asked};
+ghost use Rattle.paper.specs.Judge.{mark, findsIn, findsFrom, findings, isA, turn, asked};
 ghost use Rattle.walk.specs.Parts.{docHere};
-ghost use Rattle.judge.specs.Kept.{noFindings, keptOf, added};
+ghost use Rattle.judge.specs.Kept.{noFindings, held, keptOf, added, listed};
 ghost use Rattle.judge.specs.Seen.{atPlace, numbersAt, seenBy, noPast, lettered, numbered, nextPast};
 ghost use Rattle.judge.specs.Judged.{searched, bankFor, itemsIn, hitsIn, formFinds, sightIn, letterFor, judgmentOf};
 
@@ -36,13 +35,7 @@ pub struct Past {
 fn no_findings() -> Findings
     ensures { λ r. ⌜ r ≡ noFindings ⌝ }
 {
-    let none = Found {
-        place: 0,
-        kind: Kind::Stray,
-        rule: 0,
-    };
     Findings {
-        list: [none; 96],
         kept: 0,
         all: 0,
         ath: false,
@@ -62,25 +55,33 @@ fn fitting(kept: usize, n: usize) -> usize
     n
 }
 
-// The broken rules of a record, added to the findings.
-fn collected(f: Findings, kind: Kind, place: usize, hits: Hits) -> Findings
+// The broken rules of a record, added to the findings that the list holds.
+fn collected(
+    f: Findings,
+    kind: Kind,
+    place: usize,
+    hits: Hits,
+    list: &mut [[usize; 3]; 96],
+) -> Findings
     requires { ⌜ (0 < hits .n) × (hits .n ≤ 44) × (f .all + hits .n ≤ 18446744073709551615) ⌝ }
-    ensures { λ r. ⌜ r ≡ added f (map (mark kind place) (take (hits .n) (hits .rules))) ⌝ }
+    ensures { λ r. ⌜ held (now (list .exit)) r ≡ added (held (now (list .entry)) f) (map (mark kind place) (take (hits .n) (hits .rules))) ⌝ }
 {
     let kept = f.kept;
     let n = fitting(kept, hits.n);
-    let mut g = f;
+    let number = walk::kind_number(kind) as usize;
     let mut i: usize = 0;
     while i < n {
         let to = kept + i;
-        let rule = hits.rules[i];
-        g.list[to] = Found { place, kind, rule };
+        let rule = hits.rules[i] as usize;
+        list[to] = [place, number, rule];
         i += 1;
     }
-    g.kept = kept + n;
-    g.all = f.all + hits.n;
-    g.ath = f.ath | walk::is_auth(kind);
-    g
+    let ath = f.ath | walk::is_auth(kind);
+    Findings {
+        kept: kept + n,
+        all: f.all + hits.n,
+        ath,
+    }
 }
 
 // THE EARLIER DOCUMENTS
@@ -245,8 +246,9 @@ fn of_first(
     dcn: &[u8],
     date: &[u8],
     whole: Facts,
+    list: &mut [[usize; 3]; 96],
 ) -> Findings
-    ensures { λ r. ⌜ r ≡ keptOf (findsIn kind 0 (view (sight (now (form .entry)) (now (payer .entry)) (now (spouse .entry)) (linesIn 8 (now (zips .entry))) (now (dsn .entry)) (now (dcn .entry)) (now (date .entry)) whole) (now (form .entry)) [] 0 0)) ⌝ }
+    ensures { λ r. ⌜ held (now (list .exit)) r ≡ keptOf (now (list .entry)) (findsIn kind 0 (view (sight (now (form .entry)) (now (payer .entry)) (now (spouse .entry)) (linesIn 8 (now (zips .entry))) (now (dsn .entry)) (now (dcn .entry)) (now (date .entry)) whole) (now (form .entry)) [] 0 0)) ⌝ }
 {
     let hits = rules::broken(
         kind,
@@ -265,7 +267,7 @@ fn of_first(
     );
     let none = no_findings();
     if 0 < hits.n {
-        return collected(none, kind, 0, hits);
+        return collected(none, kind, 0, hits, list);
     }
     none
 }
@@ -290,9 +292,10 @@ fn with_others(
     date: &[u8],
     whole: Facts,
     first: Findings,
+    list: &mut [[usize; 3]; 96],
 ) -> Findings
     requires { ⌜ (at + length (now form) ≤ length (now t)) × (first .all ≤ at + length (now form)) ⌝ }
-    ensures { λ r. ⌜ r ≡ added first (findsFrom (sight (now (form .entry)) (now (payer .entry)) (now (spouse .entry)) (linesIn 8 (now (zips .entry))) (now (dsn .entry)) (now (dcn .entry)) (now (date .entry)) whole) (length (now (form .entry))) 0 0 (itemsIn (now (banks .entry)) (records (drop (at + length (now (form .entry))) (now (t .entry)))))) ⌝ }
+    ensures { λ r. ⌜ held (now (list .exit)) r ≡ added (held (now (list .entry)) first) (findsFrom (sight (now (form .entry)) (now (payer .entry)) (now (spouse .entry)) (linesIn 8 (now (zips .entry))) (now (dsn .entry)) (now (dcn .entry)) (now (date .entry)) whole) (length (now (form .entry))) 0 0 (itemsIn (now (banks .entry)) (records (drop (at + length (now (form .entry))) (now (t .entry)))))) ⌝ }
 {
     let mut found = first;
     let mut pays: usize = 0;
@@ -323,7 +326,7 @@ fn with_others(
             aths,
         );
         if 0 < hits.n {
-            found = collected(found, kind, to - at, hits);
+            found = collected(found, kind, to - at, hits, list);
         }
         pays += one_if(walk::is_payment(kind));
         aths += one_if(walk::is_auth(kind));
@@ -344,14 +347,26 @@ fn of_form(
     dcn: &[u8],
     date: &[u8],
     whole: Facts,
+    list: &mut [[usize; 3]; 96],
 ) -> Findings
     requires { ⌜ (at + length (now form) ≤ length (now t)) × (44 ≤ length (now form)) ⌝ }
-    ensures { λ r. ⌜ r ≡ keptOf (formFinds (sightIn (now (form .entry)) (now (taxpayers .entry)) (now (states .entry)) (now (dsn .entry)) (now (dcn .entry)) (now (date .entry)) whole) (now (form .entry)) (now (banks .entry)) (records (drop (at + length (now (form .entry))) (now (t .entry))))) ⌝ }
+    ensures { λ r. ⌜ held (now (list .exit)) r ≡ keptOf (now (list .entry)) (formFinds (sightIn (now (form .entry)) (now (taxpayers .entry)) (now (states .entry)) (now (dsn .entry)) (now (dcn .entry)) (now (date .entry)) whole) (now (form .entry)) (now (banks .entry)) (records (drop (at + length (now (form .entry))) (now (t .entry))))) ⌝ }
 {
     let payer = lookup::line_of(taxpayers, 33, layout::field_of(Layout::L4868, 90, form));
     let spouse = lookup::line_of(taxpayers, 33, layout::field_of(Layout::L4868, 100, form));
     let zips = lookup::rows_of(states, 8, layout::field_of(Layout::L4868, 60, form));
-    let first = of_first(Kind::Form, form, payer, spouse, zips, dsn, dcn, date, whole);
+    let first = of_first(
+        Kind::Form,
+        form,
+        payer,
+        spouse,
+        zips,
+        dsn,
+        dcn,
+        date,
+        whole,
+        list,
+    );
     with_others(
         t,
         at,
@@ -365,6 +380,7 @@ fn of_form(
         date,
         whole,
         first,
+        list,
     )
 }
 
@@ -409,8 +425,10 @@ pub fn judge(
     states: &[u8],
     date: &[u8],
     past: Past,
+    list: &mut [[usize; 3]; 96],
 ) -> Judgment
     ensures { λ r. ⌜ r ≡ judgmentOf (turn (now (date .entry)) (seenBy (now (t .entry)) past) (asked (searched (now (taxpayers .entry)) (now (banks .entry)) (now (filed .entry)) (now (states .entry))) (docHere (drop at (now (t .entry)))))) ⌝ }
+    ensures { λ _. ⌜ now (list .exit) ≡ listed (now (list .entry)) (findings (turn (now (date .entry)) (seenBy (now (t .entry)) past) (asked (searched (now (taxpayers .entry)) (now (banks .entry)) (now (filed .entry)) (now (states .entry))) (docHere (drop at (now (t .entry))))))) ⌝ }
 {
     let facts = walk::document(t, at);
     let form = first_of(t, at);
@@ -418,7 +436,19 @@ pub fn judge(
     let dsn = at_place(t, past.dsn, 16);
     let dcn = at_place(t, past.dcn, 14);
     if walk::is_form(kind) {
-        let found = of_form(t, at, form, taxpayers, banks, states, dsn, dcn, date, facts);
+        let found = of_form(
+            t,
+            at,
+            form,
+            taxpayers,
+            banks,
+            states,
+            dsn,
+            dcn,
+            date,
+            facts,
+            list,
+        );
         let letter = letter_of(t, found.all, filed, form, past);
         return Judgment {
             letter,
@@ -428,7 +458,7 @@ pub fn judge(
         };
     }
     let none = &t[0..0];
-    let found = of_first(kind, form, none, none, none, dsn, dcn, date, facts);
+    let found = of_first(kind, form, none, none, none, dsn, dcn, date, facts, list);
     let letter = letter_of(t, found.all, none, form, past);
     Judgment {
         letter,

@@ -13,12 +13,14 @@ use lib.Seq.{sets, sets-eq, drop-cons, drop-drop, getD-take, take-all, take-take
 use Rattle.record.proofs.Laws.{lay-again, lay-past, lay-end}
 use Rattle.recordset.specs.Key.{keyOf}
 use Rattle.recordset.proofs.Laws.{length-errorOf, length-keyOf, set-parts}
-use Rattle.sets.specs.Set.{setAs}
-use Rattle.paper.specs.declared.Found.{Found}
+use Rattle.sets.specs.Set.{kindAt, foundBy, firsts, setAs}
 use Rattle.paper.specs.declared.Judgment.{Judgment}
+use Rattle.paper.specs.declared.Kind.{Kind}
+use Rattle.paper.specs.declared.Kind.the-variants.{TranA, TranB, Form, Unknown, Payment, Auth, Summary, Recap, Stray}
 use Rattle.paper.specs.declared.Layout.the-variants.{L4868}
 use Rattle.paper.specs.Bytes.{Bytes, bytes, digits}
 use Rattle.paper.specs.Layouts.{field}
+use Rattle.paper.specs.Walk.{kindNumber}
 use Rattle.paper.specs.File.{laid, errorOf, errorsFrom, orZeros}
 
 -- two texts, the second right after the first, are one
@@ -59,55 +61,77 @@ module _ (out t e : List ℕ) (at i n : ℕ) (room : n ≡ min (length t) (lengt
       by true q = lay-end t out e (at + i) i v (leb-true _ _ q)
       by false q = let f : i < length t = leb-false (length t) i q in lay-past t out e (at + i) i (length out) v refl (omega arith)
 
--- the length of a row of findings, as the parameter's relation has it
-pub unmapped : (B : Type 0) (f : Found → B) (l : List Found) (n : ℕ) → length (map f l) ≡ n → length l ≡ n
-unmapped B f l n e = sym (length-map l f) ∙ e
+-- THE FINDINGS OF A ROW
 
--- The answers of the loop that lays the Error records of the first n of a row of findings, as many of its kept ones as it has
-pub errors-start : (xs : List Found) (k n m : ℕ) → length xs ≡ m → n ≡ min k m → take n xs ≡ take k xs
-errors-start xs k n m l e = by (leb k m) refl
-  where
-    by : (b : Bool) → leb k m ≡ b → take n xs ≡ take k xs
-    by true q = let f : k ≤ m = leb-true k m q in let z : n ≡ k = omega arith in ap (λ (i : ℕ). take i xs) z
-    by false q = let f : m < k = leb-false k m q in take-all n xs (omega arith) ∙ sym (take-all k xs (omega arith))
+length-firsts : (n : ℕ) (row : List (List ℕ)) → length (firsts n row) ≡ n
+length-firsts zero row = refl
+length-firsts (suc n) row = ap suc (length-firsts n (drop 1 row))
 
-module _ (ssn doc : Bytes) (xs : List Found) (n i : ℕ) (e out : Bytes) (v : laid out (120 + 120 * i) (errorsFrom ssn doc (i + 1) (drop i (take n xs))) ≡ e) where
-  pub errors-again : (d : Found) (q out' : Bytes) → n ≤ length xs → i < n → q ≡ errorOf ssn doc (i + 1) (getD xs i d) → out' ≡ laid out (120 + 120 * i) q
-      → laid out' (120 + 120 * (i + 1)) (errorsFrom ssn doc (i + 1 + 1) (drop (i + 1) (take n xs))) ≡ e
-  errors-again d q out' l h eq eo =
-      let more : i < length (take n xs) = omega (arith, length-take n xs) in
-      let rest = errorsFrom ssn doc (i + 1 + 1) (drop (i + 1) (take n xs)) in
-      let here : drop i (take n xs) ≡ getD xs i d ∷ drop (i + 1) (take n xs) =
-      drop-cons (take n xs) i d more ∙ rw (← add-one i, getD-take n xs i d h) in
-      let k : 120 + 120 * (i + 1) ≡ 120 + 120 * i + length q = omega (arith, ap length eq, length-errorOf ssn doc (i + 1) (getD xs i d)) in
+pub firsts-take : (n : ℕ) (row : List (List ℕ)) → n ≤ length row → firsts n row ≡ take n row
+firsts-take zero row h = refl
+firsts-take (suc n) [] h = absurd (omega arith)
+firsts-take (suc n) (x ∷ row) h = ap (λ (r : List (List ℕ)). x ∷ r) (firsts-take n row (omega arith))
+
+-- a finding, back from the three numbers that the row has of it
+pub kind-back : (k : Kind) → kindAt (kindNumber k) ≡ k
+unfolding kindAt
+kind-back TranA = refl
+kind-back TranB = refl
+kind-back Form = refl
+kind-back Unknown = refl
+kind-back Payment = refl
+kind-back Auth = refl
+kind-back Summary = refl
+kind-back Recap = refl
+kind-back Stray = refl
+
+getD-first : (row : List (List ℕ)) (i : ℕ) → getD (drop i row) 0 [] ≡ getD row i []
+getD-first row zero = refl
+getD-first [] (suc i) = refl
+getD-first (x ∷ row) (suc i) = getD-first row i
+
+-- The answers of the loop that lays the Error records of the first n of a row of findings
+pub errors-start : (row : List (List ℕ)) (n : ℕ) → firsts (n - 0) (drop 0 row) ≡ firsts n row
+errors-start row n = let e : n - 0 ≡ n = omega arith in ap (λ (k : ℕ). firsts k row) e
+
+module _ (ssn doc : Bytes) (row : List (List ℕ)) (n i : ℕ) (e out : Bytes) (v : laid out (120 + 120 * i) (errorsFrom ssn doc (i + 1) (map foundBy (firsts (n - i) (drop i row)))) ≡ e) where
+  pub errors-again : (q out' : Bytes) → i < n → q ≡ errorOf ssn doc (i + 1) (foundBy (getD row i [])) → out' ≡ laid out (120 + 120 * i) q
+      → laid out' (120 + 120 * (i + 1)) (errorsFrom ssn doc (i + 1 + 1) (map foundBy (firsts (n - (i + 1)) (drop (i + 1) row)))) ≡ e
+  errors-again q out' h eq eo =
+      let rest = errorsFrom ssn doc (i + 1 + 1) (map foundBy (firsts (n - (i + 1)) (drop (i + 1) row))) in
+      let m : n - i ≡ suc (n - (i + 1)) = omega arith in
+      let on : drop 1 (drop i row) ≡ drop (i + 1) row = drop-drop 1 i row in
+      let here : firsts (n - i) (drop i row) ≡ getD row i [] ∷ firsts (n - (i + 1)) (drop (i + 1) row) =
+      ap (λ (k : ℕ). firsts k (drop i row)) m ∙ (λ j. getD-first row i j ∷ firsts (n - (i + 1)) (on j)) in
+      let k : 120 + 120 * (i + 1) ≡ 120 + 120 * i + length q = omega (arith, ap length eq, length-errorOf ssn doc (i + 1) (foundBy (getD row i []))) in
       ap (λ (o : Bytes). laid o (120 + 120 * (i + 1)) rest) eo
       ∙ ap (λ (m : ℕ). laid (laid out (120 + 120 * i) q) m rest) k
       ∙ laid-append q rest out (120 + 120 * i)
       ∙ ap (λ (p : Bytes). laid out (120 + 120 * i) (p ++ rest)) eq
-      ∙ ap (λ (ys : List Found). laid out (120 + 120 * i) (errorsFrom ssn doc (i + 1) ys)) (sym here)
+      ∙ ap (λ (ys : List (List ℕ)). laid out (120 + 120 * i) (errorsFrom ssn doc (i + 1) (map foundBy ys))) (sym here)
       ∙ v
 
   pub errors-end : n ≤ i → out ≡ e
   unfolding laid
   errors-end h =
-      let none : drop i (take n xs) ≡ [] = let f : length (take n xs) ≤ i = omega (arith, length-take n xs) in drop-of-length-le (take n xs) f in
-      sym (ap (λ (ys : List Found). laid out (120 + 120 * i) (errorsFrom ssn doc (i + 1) ys)) none) ∙ v
+      let z : n - i ≡ 0 = omega arith in
+      sym (ap (λ (k : ℕ). laid out (120 + 120 * i) (errorsFrom ssn doc (i + 1) (map foundBy (firsts k (drop i row))))) z) ∙ v
 
 -- a Key, and the Error records right after it, are the set
-pub set-laid : (doc date : Bytes) (j : Judgment) (n m : ℕ) (ssn key out o1 o2 : Bytes) → length (j .found .list) ≡ m → n ≡ min (j .found .kept) m
+pub set-laid : (doc date : Bytes) (j : Judgment) (row : List (List ℕ)) (n : ℕ) (ssn key out o1 o2 : Bytes) → n ≡ min (j .found .kept) 96
     → ssn ≡ cond (j .known && digits (field L4868 90 doc)) (field L4868 90 doc) (bytes "000000000")
     → key ≡ keyOf doc (j .known) date (j .letter) (j .facts) n (j .found .ath)
     → o1 ≡ laid out 0 key
-    → o2 ≡ laid o1 120 (errorsFrom ssn doc 1 (take (j .found .kept) (j .found .list)))
-    → o2 ≡ laid out 0 (setAs doc date j)
+    → o2 ≡ laid o1 120 (errorsFrom ssn doc 1 (map foundBy (firsts n row)))
+    → o2 ≡ laid out 0 (setAs doc date j row)
 unfolding setAs orZeros
-set-laid doc date j n m ssn key out o1 o2 l en es ek e1 e2 =
-    let xs = take (j .found .kept) (j .found .list) in
-    let c : n ≡ length xs = omega (arith, length-take (j .found .kept) (j .found .list)) in
+set-laid doc date j row n ssn key out o1 o2 en es ek e1 e2 =
+    let xs = map foundBy (firsts (min (j .found .kept) 96) row) in
+    let c : n ≡ length xs = en ∙ sym (length-map (firsts (min (j .found .kept) 96) row) foundBy ∙ length-firsts (min (j .found .kept) 96) row) in
     let key' = keyOf doc (j .known) date (j .letter) (j .facts) (length xs) (j .found .ath) in
     let ssn' = orZeros (j .known) 9 (field L4868 90 doc) in
     let q : key ≡ key' = ek ∙ ap (λ (k : ℕ). keyOf doc (j .known) date (j .letter) (j .facts) k (j .found .ath)) c in
     let h : 120 ≡ 0 + length key' = omega (arith, length-keyOf doc (j .known) date (j .letter) (j .facts) (length xs) (j .found .ath)) in
-    e2 ∙ (λ i. laid (e1 i) 120 (errorsFrom (es i) doc 1 xs)) ∙ (λ i. laid (laid out 0 (q i)) (h i) (errorsFrom ssn' doc 1 xs))
+    e2 ∙ (λ i. laid (e1 i) 120 (errorsFrom (es i) doc 1 (map foundBy (firsts (en i) row)))) ∙ (λ i. laid (laid out 0 (q i)) (h i) (errorsFrom ssn' doc 1 xs))
     ∙ laid-append key' (errorsFrom ssn' doc 1 xs) out 0
     ∙ ap (laid out 0) (sym (set-parts doc doc (j .known) date (j .letter) (j .facts) xs (j .found .ath)))

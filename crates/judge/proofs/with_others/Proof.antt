@@ -9,7 +9,7 @@ use Rattle.paper.specs.Walk.{records}
 use Rattle.paper.specs.Conditions.{sight}
 use Rattle.paper.specs.Judge.{findsFrom}
 use Rattle.walk.proofs.Loops.{Stepped, stepped, other-step}
-use Rattle.judge.specs.Kept.{added}
+use Rattle.judge.specs.Kept.{held, added}
 use Rattle.judge.specs.Judged.{itemsIn}
 use Rattle.judge.proofs.Found.{Ran, ran-start, ran-end, ran-no, ran-stop, hits-fit, ran-on}
 use borrow.Author.Needs.{needs}
@@ -17,13 +17,13 @@ use Rattle.judge.proofs.with_others.Statement.{statement}
 use Rattle.judge.proofs.with_others.Tie as tie
 
 abbrev Inv-loop : tie.InvT-loop
-Inv-loop t at form payer spouse banks zips dsn dcn date whole found₀ pays₀ aths₀ to₀ found pays aths to =
+Inv-loop t at form payer spouse banks zips dsn dcn date whole list₀ found₀ pays₀ aths₀ to₀ list found pays aths to =
     Ran banks (sight form payer spouse (linesIn 8 zips) dsn dcn date whole) t at
-    (added found₀ (findsFrom (sight form payer spouse (linesIn 8 zips) dsn dcn date whole) (length form) 0 0 (itemsIn banks (records (drop (at + length form) t)))))
-    found pays aths to
+    (added (held list₀ found₀) (findsFrom (sight form payer spouse (linesIn 8 zips) dsn dcn date whole) (length form) 0 0 (itemsIn banks (records (drop (at + length form) t)))))
+    (held list found) pays aths to
 
 abbrev μ-loop : tie.MeasureT-loop
-μ-loop t at form payer spouse banks zips dsn dcn date whole found₀ pays₀ aths₀ to₀ found pays aths to = length t - to
+μ-loop t at form payer spouse banks zips dsn dcn date whole list₀ found₀ pays₀ aths₀ to₀ list found pays aths to = length t - to
 
 here : (c : tie.After-known-told Inv-loop μ-loop) → Stepped (now (c .before .before .before .before .before .before .before .before .before .before .before .before .before .before .before .args .t)) (c .before .before .before .before .before .loop .to) (c .before .n .given .0 .0)
 here c = let g = c .before .before .before in stepped _ (g .before .before .loop .to) _ (g .step .result) (g .step .ensures) (c .before .n .given .1)
@@ -64,7 +64,7 @@ with-others-spec =
     (λ c. let h = here (c .before .before .before .before) in omega arith)
     (λ c κs. search needs)
     (λ c. let i = c .before .before .before .before .before .before .before .before .before .before .before .before .before .loop .inv .after in omega arith)
-    (λ c κs. let r = room c in (c .if2 .taken, r .0, r .1))
+    (λ c κs. let r = room (c .before) in (c .before .if2 .taken, r .0, r .1))
     (λ c κs. search needs)
     (λ c κs. search needs)
     (λ c. let h = here (c .before .before .before .before .before .before .before .before .before .before) in let w = long (c .before .before .before .before .before .before .before .before .before .before) in let i = c .before .before .before .before .before .before .before .before .before .before .before .before .before .before .before .loop .inv .few-pays in omega arith)
@@ -77,6 +77,6 @@ with-others-spec =
     let e = m .before .before .before .before in
     let k = e .before .before .before .before in
     ran-on _ _ _ _ _ _ _ _ _ (k .before .before .before .before .before .loop .inv) _ _ _ (here k) (e .before .before .kind-of .ensures) (e .before .goes-on .ensures) _ (m .before .before .broken-by .ensures)
-    (m .if2 .found) _ _ _ _ (e .if1 .left) (⊎-elim (λ w. inl (w .2 ∙ w .1 .ensures)) (λ w. inr (w .0 .left, w .1)) (m .if2 .came))
+    (held (m .if2 .list) (m .if2 .found)) _ _ _ _ (e .if1 .left) (⊎-elim (λ w. inl ((λ j. held (w .3 j) (w .4 j)) ∙ w .2 .ensures)) (λ w. inr (w .0 .left, λ j. held (w .1 j) (w .2 j))) (m .if2 .came))
     (c .before .before .before .is-payment .ensures) (c .before .before .one-if .ensures .0) (c .before .is-auth .ensures) (c .one-if2 .ensures .0))
     (λ c. ran-end _ _ _ _ _ _ _ _ _ (c .before .loop .inv) (c .loop-test .left)))
