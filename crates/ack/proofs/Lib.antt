@@ -1,4 +1,3 @@
-pub mod Rejection
 pub mod Back
 pub mod Onward
 pub mod Tour

@@ -38,7 +38,8 @@ use Rattle.judge.specs.Judged.{searched}
 use Rattle.judge.proofs.Ties.{asked-sought}
 use Rattle.ack.specs.declared.Route.{Route}
 use Rattle.ack.specs.declared.Route.the-variants.{Reject, Judge}
-use Rattle.ack.specs.Ties.{blocksBy, Begins, turnsIn, judgedFile, fileBy, routeBy, routeOf, Given}
+use Rattle.rejection.specs.Given.{Given}
+use Rattle.ack.specs.Ties.{blocksBy, Begins, turnsIn, judgedFile, fileBy, routeBy, routeOf}
 use Rattle.ack.proofs.Tour.{parts, begins}
 
 -- THE 12 DIGITS

@@ -1,19 +1,16 @@
 -- What the functions below the entry points rest on, and what they give. Assumes nothing.
 use Prim.Native.Nat.{ℕ, _+_, _-_, _*_, _≤_}
-use mathlib.Core.Bool.{Bool, true, false, not, cond}
-use mathlib.Core.List.{List, [], _∷_, map}
+use mathlib.Core.Bool.{Bool, true, false, not}
+use mathlib.Core.List.{List, map}
 use mathlib.Core.Path.{_≡_}
 use lib.Dec.{eqb}
 use lib.ListN.{length, drop}
-use Rattle.paper.specs.declared.Answer.{Answer}
-use Rattle.paper.specs.declared.Codes.{Codes}
-use Rattle.paper.specs.declared.Codes.the-variants.{C0823, C0822, C0840, C0822And0840}
+use Rattle.paper.specs.declared.Codes.the-variants.{C0822, C0840, C0822And0840}
 use Rattle.paper.specs.Bytes.{Bytes, same, joined}
 use Rattle.paper.specs.Pack.{Lines, Blocks}
 use Rattle.paper.specs.Walk.{records, twelveAgain, parsedOf, docsOf}
 use Rattle.paper.specs.Judge.{Turn, turn, turns, asked}
 use Rattle.paper.specs.File.{laid, setOf, acceptedIn, judged, turnsOf, outcome, fileFrom}
-use Rattle.paper.specs.Answer.{roomFor, leftBy}
 use Rattle.lookup.specs.Find.{lineIn, sought}
 use Rattle.walk.specs.declared.Outer.the-variants.{Sound}
 use Rattle.walk.specs.Shape.{shapeOf}
@@ -23,16 +20,6 @@ use Rattle.judge.specs.Seen.{seenBy}
 use Rattle.ack.specs.declared.Done.{Done}
 use Rattle.ack.specs.declared.Route.{Route}
 use Rattle.ack.specs.declared.Route.the-variants.{Reject, Judge}
-
--- one code or two, where the second is not 0
-abbrev pub codesBy : ℕ → ℕ → List ℕ
-codesBy first second = cond (eqb second 0) (first ∷ []) (first ∷ second ∷ [])
-
-abbrev pub codeRow : Codes → List ℕ
-codeRow C0823 = 823 ∷ 0 ∷ []
-codeRow C0822 = 822 ∷ 0 ∷ []
-codeRow C0840 = 840 ∷ 0 ∷ []
-codeRow C0822And0840 = 822 ∷ 840 ∷ []
 
 -- the blocks, lent one by one
 abbrev pub blocksBy : Bytes → Bytes → Bytes → Bytes → Bytes → Blocks
@@ -92,8 +79,3 @@ pub record Written (ts : List Turn) (from : ℕ) (out out' : Bytes) (d : Done) :
   pub holds : out' ≡ laid out from (setsIn ts)
   pub counts : d .accepted ≡ acceptedIn ts
   pub few : d .accepted ≤ 65536
-
--- the answer for a file, to an output of the bytes out, and what it then holds
-pub record Given (file out out' : Bytes) (r : Answer) : Type 0 where
-  pub says : r ≡ roomFor (length out) file
-  pub leaves : out' ≡ leftBy r file out

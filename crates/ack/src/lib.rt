@@ -6,21 +6,20 @@ use paper::Codes;
 use paper::Layout;
 use paper::Letter;
 use paper::Refusal;
-use paper::Verdict;
 use walk::Outer;
 ghost use mathlib.Core.Path.{_≡_};
-ghost use mathlib.Core.Bool.{cond};
 ghost use mathlib.Core.List.{_++_};
 ghost use Prim.Native.Nat.{_+_, _-_, _*_, _/_, _≤_, min};
-ghost use lib.Dec.{eqb, leb};
+ghost use lib.Dec.{leb};
 ghost use lib.ListN.{length};
-ghost use Rattle.paper.specs.Bytes.{bytes, bit, every, within, zeros, blanks};
+ghost use Rattle.paper.specs.Bytes.{bytes, bit, every, within};
 ghost use Rattle.paper.specs.Judge.{isA};
-ghost use Rattle.paper.specs.File.{laid, errorRecord, wholeErrors, rejection};
+ghost use Rattle.paper.specs.File.{laid};
 ghost use Rattle.paper.specs.Answer.{fileName, prescribed, answer, refusalNumber, numberOf, lengthOf, coded, leftBy};
 ghost use Rattle.pack.specs.Shape.{shapeOf};
 ghost use Rattle.judge.specs.Judged.{searched};
-ghost use Rattle.ack.specs.Ties.{codesBy, codeRow, blocksBy, Begins, turnsIn, setsIn, judgedFile, fileBy, routeBy, routeOf, Written, Given};
+ghost use Rattle.rejection.specs.Given.{Given};
+ghost use Rattle.ack.specs.Ties.{blocksBy, Begins, turnsIn, setsIn, judgedFile, fileBy, routeBy, routeOf, Written};
 
 // Where the record sets end, and how many documents are accepted.
 struct Done {
@@ -32,80 +31,6 @@ struct Done {
 enum Route {
     Reject(Codes),
     Judge,
-}
-
-// THE WHOLE REJECTION
-
-// The codes in their order; 0 for no second one.
-fn codes_of(codes: Codes) -> [u32; 2]
-    ensures { λ r. ⌜ r ≡ codeRow codes ⌝ }
-{
-    match codes {
-        Codes::C0823 => [823, 0],
-        Codes::C0822 => [822, 0],
-        Codes::C0840 => [840, 0],
-        Codes::C0822And0840 => [822, 840],
-    }
-}
-
-// The n-th Error record, for a code.
-fn put_code(out: &mut [u8], n: u32, code: u32)
-    ensures { λ _. ⌜ now (out .exit) ≡ laid (now (out .entry)) (120 * n) (errorRecord (zeros 9) n (blanks 6) (blanks 6) (zeros 5) (zeros 7) code) ⌝ }
-{
-    let e = record::error_record(
-        b"000000000",
-        n,
-        b"      ",
-        b"      ",
-        b"00000",
-        b"0000000",
-        code,
-    );
-    sets::put(out, 120 * n as usize, &e)
-}
-
-fn errors_of(second: u32) -> u32
-    ensures { λ r. ⌜ (r ≡ cond (eqb second 0) 1 2) × (r ≤ 2) ⌝ }
-{
-    if second == 0 { 1 } else { 2 }
-}
-
-// An Error record a code.
-fn put_codes(out: &mut [u8], first: u32, second: u32)
-    ensures { λ _. ⌜ now (out .exit) ≡ laid (now (out .entry)) 120 (wholeErrors 1 (codesBy first second)) ⌝ }
-{
-    put_code(out, 1, first);
-    if second != 0 {
-        put_code(out, 2, second)
-    }
-}
-
-// One Key with T, and an Error record a code.
-fn reject(sequence: &[u8], codes: Codes, out: &mut [u8]) -> Answer
-    ensures { λ r. ⌜ Given (rejection (now (sequence .entry)) codes) (now (out .entry)) (now (out .exit)) r ⌝ }
-{
-    let row = codes_of(codes);
-    let first = row[0];
-    let second = row[1];
-    let errors = errors_of(second);
-    let size = 120 + 120 * errors as usize;
-    if out.len() < size {
-        return Answer::Refused(Refusal::ShortOutput);
-    }
-    let v = Verdict::Whole(codes);
-    let key = record::key_record(
-        b"000000000",
-        sequence,
-        v,
-        b' ',
-        b"00000000",
-        b"00000000000000",
-        errors,
-        b"               ",
-    );
-    sets::put(out, 0, &key);
-    put_codes(out, first, second);
-    Answer::File(size)
 }
 
 // The 12 digits and 0000.
@@ -345,7 +270,7 @@ fn by_twelve(
     match route_of(t, twelve, sent) {
         Route::Reject(codes) => {
             let sequence = sequence_of(twelve);
-            reject(&sequence, codes, out)
+            rejection::reject(&sequence, codes, out)
         }
         Route::Judge => judge_all(t, n, taxpayers, banks, filed, states, date, name, out),
     }
@@ -367,7 +292,7 @@ fn by_structure(
     ensures { λ r. ⌜ Given (fileBy (blocksBy (now (taxpayers .entry)) (now (banks .entry)) (now (filed .entry)) (now (states .entry)) (now (sent .entry))) (now (date .entry)) (now (name .entry)) (now (t .entry))) (now (out .entry)) (now (out .exit)) r ⌝ }
 {
     match walk::structure(t) {
-        Outer::Rejected => reject(b"0000000000000000", Codes::C0823, out),
+        Outer::Rejected => rejection::reject(b"0000000000000000", Codes::C0823, out),
         Outer::Sound(n) => by_twelve(t, n, taxpayers, banks, filed, states, sent, date, name, out),
     }
 }

@@ -24,6 +24,6 @@ by-structure-spec =
     let o = e .before .before .before .before .before in
     let s = o .before .before .before .before .before .before .before .before .before .before in
     let a = s .args in
-    by-0823 (blocksBy (now (a .taxpayers)) (now (a .banks)) (now (a .filed)) (now (a .states)) (now (a .sent))) (now (a .date)) (now (a .name)) (now (a .t)) (o .structure .result) (now (a .out)) (e .reject .last .1 .1 .0) (e .reject .result) (o .structure .ensures) (e .before .before .before .enum-told .given .1) (e .reject .ensures))
+    by-0823 (blocksBy (now (a .taxpayers)) (now (a .banks)) (now (a .filed)) (now (a .states)) (now (a .sent))) (now (a .date)) (now (a .name)) (now (a .t)) (o .structure .result) (now (a .out)) (e .reject .last .1 .1 .0) (e .reject .result) (o .structure .ensures) (e .before .before .before .enum-told .given .1) (record { says = e .reject .ensures .0; leaves = e .reject .ensures .1 }))
     (λ c. search needs)
     (λ c. search needs))

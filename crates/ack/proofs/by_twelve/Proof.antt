@@ -35,7 +35,7 @@ by-twelve-spec =
     let s = r .before .before .before .before .before .before .before .before .before .before .before .before in
     let a = s .args in
     by-reject (blocks s) (now (a .date)) (now (a .name)) (now (a .t)) (a .n) (s .pre) (now (r .before .through .result)) (r .before .through .ensures) (r .route-of .result) (r .route-of .ensures) (now (a .out)) (e .reject .last .1 .1 .0) (e .reject .result)
-    (q .before .before .codes .given .0 .0) (q .sequence-of .result) (q .before .before .codes .given .1) (q .sequence-of .ensures) (e .reject .ensures))
+    (q .before .before .codes .given .0 .0) (q .sequence-of .result) (q .before .before .codes .given .1) (q .sequence-of .ensures) (record { says = e .reject .ensures .0; leaves = e .reject .ensures .1 }))
     (λ c. search needs)
     (λ c.
     let e = c .before .before in

@@ -9,7 +9,7 @@ use Rattle.paper.specs.Bytes.{Bytes}
 use Rattle.paper.specs.Pack.{Lines}
 use Rattle.judge.specs.Judged.{searched}
 use Rattle.ack.specs.Ties.{turnsIn, setsIn, judgedFile}
-use Rattle.ack.proofs.Rejection.{refuse, give}
+use Rattle.rejection.proofs.Laws.{refuse, give}
 use Rattle.ack.proofs.Whole.{file-size}
 use borrow.Author.Needs.{needs}
 use Rattle.ack.proofs.judge_all.Statement.{statement}

@@ -1,5 +1,5 @@
 use mathlib.Core.Path.{refl}
-use Rattle.ack.proofs.Rejection.{padded}
+use Rattle.rejection.proofs.Laws.{padded}
 use denote.Ref.{now}
 use borrow.Author.Needs.{needs}
 use Rattle.ack.proofs.sequence_of.Statement.{statement}

@@ -18,7 +18,7 @@ use Rattle.paper.specs.Bytes.{Bytes, bytes, zeros, blanks}
 use Rattle.paper.specs.File.{laid, keyRecord, errorRecord, codeList, wholeErrors, rejection}
 use Rattle.record.proofs.Laws.{length-key, length-error}
 use Rattle.sets.proofs.Laws.{laid-append}
-use Rattle.ack.specs.Ties.{codesBy, codeRow, Given}
+use Rattle.rejection.specs.Given.{codesBy, codeRow, Given}
 
 -- n bytes of a file do not fit, or do and stand at the front
 module _ (file out : Bytes) (n : ℕ) (e : n ≡ length file) where

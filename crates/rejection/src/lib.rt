@@ -1,0 +1,87 @@
+// The file of a whole rejection: one Key with T, and an Error record a code.
+use paper::Answer;
+use paper::Codes;
+use paper::Refusal;
+use paper::Verdict;
+ghost use mathlib.Core.Path.{_≡_};
+ghost use mathlib.Core.Bool.{cond};
+ghost use Prim.Native.Nat.{_*_, _≤_};
+ghost use lib.Dec.{eqb};
+ghost use lib.ListN.{length};
+ghost use Rattle.paper.specs.Bytes.{zeros, blanks};
+ghost use Rattle.paper.specs.File.{laid, errorRecord, wholeErrors, rejection};
+ghost use Rattle.paper.specs.Answer.{roomFor, leftBy};
+ghost use Rattle.rejection.specs.Given.{codesBy, codeRow};
+
+// The codes in their order; 0 for no second one.
+fn codes_of(codes: Codes) -> [u32; 2]
+    ensures { λ r. ⌜ r ≡ codeRow codes ⌝ }
+{
+    match codes {
+        Codes::C0823 => [823, 0],
+        Codes::C0822 => [822, 0],
+        Codes::C0840 => [840, 0],
+        Codes::C0822And0840 => [822, 840],
+    }
+}
+
+// The n-th Error record, for a code.
+fn put_code(out: &mut [u8], n: u32, code: u32)
+    ensures { λ _. ⌜ now (out .exit) ≡ laid (now (out .entry)) (120 * n) (errorRecord (zeros 9) n (blanks 6) (blanks 6) (zeros 5) (zeros 7) code) ⌝ }
+{
+    let e = record::error_record(
+        b"000000000",
+        n,
+        b"      ",
+        b"      ",
+        b"00000",
+        b"0000000",
+        code,
+    );
+    sets::put(out, 120 * n as usize, &e)
+}
+
+fn errors_of(second: u32) -> u32
+    ensures { λ r. ⌜ (r ≡ cond (eqb second 0) 1 2) × (r ≤ 2) ⌝ }
+{
+    if second == 0 { 1 } else { 2 }
+}
+
+// An Error record a code.
+fn put_codes(out: &mut [u8], first: u32, second: u32)
+    ensures { λ _. ⌜ now (out .exit) ≡ laid (now (out .entry)) 120 (wholeErrors 1 (codesBy first second)) ⌝ }
+{
+    put_code(out, 1, first);
+    if second != 0 {
+        put_code(out, 2, second)
+    }
+}
+
+// One Key with T, and an Error record a code.
+pub fn reject(sequence: &[u8], codes: Codes, out: &mut [u8]) -> Answer
+    ensures { λ r. ⌜ r ≡ roomFor (length (now (out .entry))) (rejection (now (sequence .entry)) codes) ⌝ }
+    ensures { λ r. ⌜ now (out .exit) ≡ leftBy r (rejection (now (sequence .entry)) codes) (now (out .entry)) ⌝ }
+{
+    let row = codes_of(codes);
+    let first = row[0];
+    let second = row[1];
+    let errors = errors_of(second);
+    let size = 120 + 120 * errors as usize;
+    if out.len() < size {
+        return Answer::Refused(Refusal::ShortOutput);
+    }
+    let v = Verdict::Whole(codes);
+    let key = record::key_record(
+        b"000000000",
+        sequence,
+        v,
+        b' ',
+        b"00000000",
+        b"00000000000000",
+        errors,
+        b"               ",
+    );
+    sets::put(out, 0, &key);
+    put_codes(out, first, second);
+    Answer::File(size)
+}
