@@ -14,7 +14,7 @@ use Rattle.paper.specs.declared.Letter.{Letter}
 use Rattle.paper.specs.declared.Kind.{Kind}
 use Rattle.paper.specs.declared.Step.{Step}
 use Rattle.paper.specs.declared.Kind.the-variants.{Form}
-use Rattle.paper.specs.Bytes.{Bytes, bit, same, member, part, digits, firstOr}
+use Rattle.paper.specs.Bytes.{Bytes, bit, same, before, member, part, digits, firstOr}
 use Rattle.paper.specs.Layouts.{form4868, entry, field}
 use Rattle.paper.specs.Pack.{Lines}
 use Rattle.paper.specs.Walk.{step, records, kindOf, is}
@@ -25,7 +25,8 @@ use Rattle.walk.proofs.Records.{never}
 use Rattle.walk.proofs.Sound.{is-eq, stands-here}
 use Rattle.walk.proofs.Loops.{isRecord, Stepped, not-stepped, no-more, as-part}
 use Rattle.judge.specs.declared.Past.{Past}
-use Rattle.judge.specs.Seen.{atPlace, numbersAt, seenBy, noPast, placeOf, lettered, numbered, nextPast}
+use Rattle.judge.specs.declared.Standing.the-variants.{NoDigits, Above, NotAbove}
+use Rattle.judge.specs.Seen.{atPlace, numbersAt, seenBy, noPast, placeOf, lettered, standingOf, placeAfter, numbered, nextPast}
 
 -- The loop over the places: r says whether the number at place i is this one
 module _ (t ssn : Bytes) (places : List ℕ) (i : ℕ) (v : member ssn (numbersAt t places) ≡ member ssn (numbersAt t (drop i places))) where
@@ -74,6 +75,16 @@ field-here t at n =
     ∙ ap (take (entry L4868 n .width)) (drop-drop (entry L4868 n .start) at t)
 
 -- WHAT A DOCUMENT LEAVES
+
+-- the nearest number is the one that is digits, above the earlier one or not
+pub nearest : (f e : Bytes) (place earlier : ℕ) → placeAfter (standingOf f e) place earlier ≡ cond (digits f) place earlier
+unfolding standingOf
+nearest f e place earlier = by (digits f) (before e f)
+  where
+    by : (d b : Bool) → placeAfter (cond d (cond b Above NotAbove) NoDigits) place earlier ≡ cond d place earlier
+    by true true = refl
+    by true false = refl
+    by false b = refl
 
 same-dsn : (at : ℕ) (l : Letter) (p : Past) → (lettered at l p .dsn ≡ p .dsn) × (lettered at l p .dcn ≡ p .dcn)
 unfolding lettered

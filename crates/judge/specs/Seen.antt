@@ -6,11 +6,13 @@ use lib.Dec.{eqb, ltb}
 use lib.ListN.{take, drop, set, replicate}
 use Rattle.paper.specs.declared.Layout.the-variants.{L4868}
 use Rattle.paper.specs.declared.Letter.{Letter}
-use Rattle.paper.specs.Bytes.{Bytes, part, digits}
+use Rattle.paper.specs.Bytes.{Bytes, before, part, digits}
 use Rattle.paper.specs.Layouts.{entry, field}
 use Rattle.paper.specs.Judge.{Before, known, isA}
 use Rattle.walk.specs.Parts.{docHere}
 use Rattle.judge.specs.declared.Past.{Past}
+use Rattle.judge.specs.declared.Standing.{Standing}
+use Rattle.judge.specs.declared.Standing.the-variants.{NoDigits, Above, NotAbove}
 
 -- width bytes at a place; at place 0 none
 unfoldable pub atPlace : ℕ → ℕ → Bytes → Bytes
@@ -34,6 +36,16 @@ placeOf at n = at + entry L4868 n .start
 unfoldable pub lettered : ℕ → Letter → Past → Past
 lettered at l p =
     cond (isA l && ltb (p .n) 94) (record { dsn = p .dsn; dcn = p .dcn; list = set (p .list) (p .n) (placeOf at 90); n = p .n + 1 }) p
+
+-- how a number stands to the nearest earlier one
+unfoldable pub standingOf : Bytes → Bytes → Standing
+standingOf f earlier = cond (digits f) (cond (before earlier f) Above NotAbove) NoDigits
+
+-- where the nearest number then stands
+abbrev pub placeAfter : Standing → ℕ → ℕ → ℕ
+placeAfter NoDigits place earlier = earlier
+placeAfter Above place earlier = place
+placeAfter NotAbove place earlier = place
 
 -- 0007 and 0008 where they are digits
 unfoldable pub numbered : ℕ → Bytes → Past → Past

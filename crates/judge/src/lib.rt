@@ -8,18 +8,17 @@ use paper::Letter;
 use paper::Step;
 use rules::Hits;
 ghost use mathlib.Core.Path.{_≡_};
-ghost use mathlib.Core.Bool.{cond};
 ghost use mathlib.Core.List.{[], map};
 ghost use Prim.Native.Nat.{_+_, _-_, _<_, _≤_, min};
 ghost use lib.ListN.{length, take, drop};
-ghost use Rattle.paper.specs.Bytes.{bit, digits, member};
+ghost use Rattle.paper.specs.Bytes.{bit, member};
 ghost use Rattle.paper.specs.Pack.{linesIn};
 ghost use Rattle.paper.specs.Walk.{records};
 ghost use Rattle.paper.specs.Conditions.{sight, view};
 ghost use Rattle.paper.specs.Judge.{mark, findsIn, findsFrom, findings, isA, turn, asked};
 ghost use Rattle.walk.specs.Parts.{docHere};
 ghost use Rattle.judge.specs.Kept.{noFindings, held, keptOf, added, listed};
-ghost use Rattle.judge.specs.Seen.{atPlace, numbersAt, seenBy, noPast, lettered, numbered, nextPast};
+ghost use Rattle.judge.specs.Seen.{atPlace, numbersAt, seenBy, noPast, lettered, standingOf, placeAfter, numbered, nextPast};
 ghost use Rattle.judge.specs.Judged.{searched, bankFor, itemsIn, hitsIn, formFinds, sightIn, letterFor, judgmentOf};
 
 // What the earlier documents leave: where the nearest 0007 and 0008 stand that are digits, 0 for none, and the numbers of those that got A.
@@ -148,21 +147,51 @@ fn with_letter(at: usize, letter: Letter, p: Past) -> Past
     q
 }
 
-fn place_or(f: &[u8], place: usize, earlier: usize) -> usize
-    ensures { λ r. ⌜ r ≡ cond (digits (now (f .entry))) place earlier ⌝ }
-{
-    if text::digits(f) { place } else { earlier }
+// How a number stands to the nearest earlier one.
+enum Standing {
+    NoDigits,
+    Above,
+    NotAbove,
 }
 
-fn with_numbers(at: usize, form: &[u8], p: Past) -> Past
+fn standing_of(f: &[u8], earlier: &[u8]) -> Standing
+    ensures { λ r. ⌜ r ≡ standingOf (now (f .entry)) (now (earlier .entry)) ⌝ }
+{
+    if !text::digits(f) {
+        return Standing::NoDigits;
+    }
+    if text::is_before(earlier, f) {
+        return Standing::Above;
+    }
+    Standing::NotAbove
+}
+
+// Where the nearest number now stands: digits take the place of those before, above them or not.
+fn place_after(s: Standing, place: usize, earlier: usize) -> usize
+    ensures { λ r. ⌜ r ≡ placeAfter s place earlier ⌝ }
+{
+    match s {
+        Standing::NoDigits => earlier,
+        Standing::Above => place,
+        Standing::NotAbove => place,
+    }
+}
+
+fn with_numbers(t: &[u8], at: usize, form: &[u8], p: Past) -> Past
     requires { ⌜ at + 384 ≤ 18446744073709551615 ⌝ }
     ensures { λ r. ⌜ r ≡ numbered at (now (form .entry)) p ⌝ }
 {
-    let dsn = layout::field_of(Layout::L4868, 7, form);
-    let dcn = layout::field_of(Layout::L4868, 8, form);
+    let dsn = standing_of(
+        layout::field_of(Layout::L4868, 7, form),
+        at_place(t, p.dsn, 16),
+    );
+    let dcn = standing_of(
+        layout::field_of(Layout::L4868, 8, form),
+        at_place(t, p.dcn, 14),
+    );
     let mut q = p;
-    q.dsn = place_or(dsn, at + layout::start_of(Layout::L4868, 7), p.dsn);
-    q.dcn = place_or(dcn, at + layout::start_of(Layout::L4868, 8), p.dcn);
+    q.dsn = place_after(dsn, at + layout::start_of(Layout::L4868, 7), p.dsn);
+    q.dcn = place_after(dcn, at + layout::start_of(Layout::L4868, 8), p.dcn);
     q
 }
 
@@ -172,7 +201,7 @@ pub fn pass(t: &[u8], at: usize, past: Past, letter: Letter) -> Past
 {
     let form = first_of(t, at);
     if walk::is_form(walk::kind_of(form)) {
-        return with_numbers(at, form, with_letter(at, letter, past));
+        return with_numbers(t, at, form, with_letter(at, letter, past));
     }
     past
 }
