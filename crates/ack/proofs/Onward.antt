@@ -2,11 +2,10 @@
 use mathlib.Core.Path.{_≡_, refl, sym, ap, _∙_, subst}
 use mathlib.Core.Bool.{Bool, true, false}
 use mathlib.Core.List.{List, [], _∷_, map}
-use Prim.Native.Nat.{ℕ, zero, suc, _+_, _-_, _*_, _≤_, _<_, min}
+use Prim.Native.Nat.{ℕ, _+_, _-_, _*_, _≤_, _<_, min}
 use native.Mathlib.Omega.{arith}
 use native.Mathlib.Nat.{add-sub-cancel-left}
 use lib.ListN.{length, take, drop, length-take}
-use lib.Seq.{take-take}
 use Rattle.paper.specs.declared.Facts.{Facts}
 use Rattle.paper.specs.declared.Found.{Found}
 use Rattle.paper.specs.declared.Judgment.{Judgment}
@@ -29,19 +28,13 @@ use Rattle.judge.specs.Judged.{judgmentOf}
 use Rattle.judge.specs.Seen.{seenBy, nextPast}
 use Rattle.judge.specs.Kept.{listed}
 use Rattle.judge.proofs.Kept.{Keeps}
-use Rattle.judge.proofs.Seen.{form-main, form-size, leaves-after, next-few}
+use Rattle.judge.proofs.Seen.{part-take, form-main, form-size, leaves-after, next-few}
 use Rattle.judge.proofs.Ties.{judged-keeps, judged-letter, judged-facts, accepted-long}
 use Rattle.sets.specs.Set.{foundBy, firsts, setAs}
 use Rattle.ack.proofs.Back.{row-findings}
 use Rattle.ack.specs.Ties.{here, ahead, Going}
 
 -- THE OPENING RECORD'S FIELDS, read in the bytes that it starts
-
-part-take : (n a w : ℕ) (l : Bytes) → a + w ≤ n → part a w (take n l) ≡ part a w l
-part-take n zero w l h = take-take w n l (omega arith)
-part-take zero (suc a) w l h = absurd (omega arith)
-part-take (suc n) (suc a) w [] h = refl
-part-take (suc n) (suc a) w (x ∷ l) h = part-take n a w l (omega arith)
 
 field-take : (n k : ℕ) (s : Bytes) → 384 ≤ n → field L4868 k (take n s) ≡ field L4868 k s
 unfolding field

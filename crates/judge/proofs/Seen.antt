@@ -61,7 +61,7 @@ form-main s h = ap firstOr (form-here s h .1)
 pub form-size : (t : Bytes) (at : ℕ) (m : Bytes) → known (docHere (drop at t)) ≡ true → m ≡ docHere (drop at t) .main → length m ≡ 384
 form-size t at m h e = ap length (e ∙ form-main (drop at t) h) ∙ (let n : length (take 384 (drop at t)) ≡ 384 = omega (arith, length-take 384 (drop at t), form-here (drop at t) h .0) in n)
 
-part-take : (n a w : ℕ) (l : Bytes) → a + w ≤ n → part a w (take n l) ≡ part a w l
+pub part-take : (n a w : ℕ) (l : Bytes) → a + w ≤ n → part a w (take n l) ≡ part a w l
 part-take n zero w l h = take-take w n l (omega arith)
 part-take zero (suc a) w l h = absurd (omega arith)
 part-take (suc n) (suc a) w [] h = refl

@@ -11,7 +11,7 @@ ghost use lib.Dec.{ltb};
 ghost use lib.ListN.{drop};
 ghost use Rattle.paper.specs.Bytes.{digits};
 ghost use Rattle.paper.specs.Layouts.{field};
-ghost use Rattle.paper.specs.Walk.{is, kindNumber};
+ghost use Rattle.paper.specs.Walk.{is};
 ghost use Rattle.paper.specs.Judge.{isA};
 ghost use Rattle.paper.specs.File.{pinByte, errorOf};
 ghost use Rattle.recordset.specs.Key.{keyOf};
@@ -24,35 +24,6 @@ fn is_a(letter: Letter) -> bool
         Letter::R => false,
         Letter::D => false,
     }
-}
-
-fn number_of(kind: Kind) -> u8
-    ensures { λ r. ⌜ r ≡ kindNumber kind ⌝ }
-{
-    match kind {
-        Kind::TranA => 0,
-        Kind::TranB => 1,
-        Kind::Form => 2,
-        Kind::Unknown => 3,
-        Kind::Payment => 4,
-        Kind::Auth => 5,
-        Kind::Summary => 6,
-        Kind::Recap => 7,
-        Kind::Stray => 8,
-    }
-}
-
-fn is_summary(kind: Kind) -> bool
-    ensures { λ r. ⌜ r ≡ is Kind.Summary kind ⌝ }
-{
-    6 == number_of(kind)
-}
-
-fn is_payment_or_auth(kind: Kind) -> bool
-    ensures { λ r. ⌜ r ≡ (is Kind.Payment kind || is Kind.Auth kind) ⌝ }
-{
-    let number = number_of(kind);
-    (4 == number) | (5 == number)
 }
 
 // The one text or the other.
@@ -136,14 +107,15 @@ fn type_at<'a>(kind: Kind, r: &'a [u8], blanks: &'a [u8]) -> &'a [u8]
     ensures { λ t. ⌜ now t ≡ cond (is Kind.Summary kind) (now (blanks .entry)) (field Layout.L4868 1 (now (r .entry))) ⌝ }
 {
     let form = layout::field_of(Layout::L4868, 1, r);
-    pick(is_summary(kind), blanks, form)
+    pick(walk::is_summary(kind), blanks, form)
 }
 
 fn occurrence_at<'a>(kind: Kind, r: &'a [u8], first: &'a [u8]) -> &'a [u8]
     ensures { λ t. ⌜ now t ≡ cond ((is Kind.Payment kind || is Kind.Auth kind) && digits (field Layout.LPayment 5 (now (r .entry)))) (field Layout.LPayment 5 (now (r .entry))) (now (first .entry)) ⌝ }
 {
     let f = layout::field_of(Layout::LPayment, 5, r);
-    pick(is_payment_or_auth(kind) & text::digits(f), f, first)
+    let counted = walk::is_payment(kind) | walk::is_auth(kind);
+    pick(counted & text::digits(f), f, first)
 }
 
 // The n-th ACK Error record of a document, for a finding.

@@ -289,7 +289,7 @@ fn none() -> Hits
     }
 }
 
-// Of a record of no known kind: its one rule.
+// Of an FRM of an unknown form: its one rule.
 fn of_unknown() -> Hits
     ensures { λ r. ⌜ r ≡ hitsOf unknownRules ⌝ }
 {

@@ -23,7 +23,7 @@ kindAt n =
     (cond (eqb n 6) Summary
     (cond (eqb n 7) Recap Stray)))))))
 
--- the finding of a place, a kind's number and a rule
+-- the finding of a place, a kind's number and a rule, which is read as 32 bits
 unfoldable pub foundBy : List ℕ → Found
 foundBy x = record { place = getD x 0 0; kind = kindAt (getD x 1 0); rule = getD x 2 0 % 4294967296 }
 
