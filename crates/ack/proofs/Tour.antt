@@ -26,7 +26,8 @@ use Rattle.sets.specs.Set.{setAs}
 use Rattle.record.proofs.Laws.{length-laid}
 use Rattle.sets.proofs.Laws.{laid-append, lent-laid}
 use Rattle.ack.specs.declared.Done.{Done}
-use Rattle.ack.specs.Ties.{Begins, turnsIn, setsIn, here, ahead, Going, Written}
+use Rattle.ack.specs.declared.Stand.{Stand}
+use Rattle.ack.specs.Ties.{Begins, turnsIn, setsIn, standAt, here, ahead, Going, Written}
 use Rattle.ack.proofs.Onward.{said, kept-few, moved, set-here, set-size, going-on, turn-here}
 
 -- A SOUND TRANSMISSION
@@ -111,15 +112,17 @@ module _ (L : Lines) (date t : Bytes) where
       (record { tour = tour-start t n b; small = omega arith; total = ap (λ (ts : List Turn). 0 + length (setsIn ts)) (all-ahead n b) ∙ omega arith })
 
   module _ (n : ℕ) (p : Past) (at size i : ℕ) (o : Needing n p at size i) where
-    pub need-on : i < n → (j : Judgment) → j ≡ judgmentOf (here L date t at p) → (q : Past) → q ≡ nextPast t at (j .letter) p
-        → Needing n q (at + j .facts .size) (size + (120 + 120 * j .found .kept)) (i + 1)
-    need-on h j ej q eq =
+    pub need-on : i < n → (j : Judgment) → j ≡ judgmentOf (here L date t at p) → (s : Stand) → s ≡ standAt (at + j .facts .size) (nextPast t at (j .letter) p)
+        → Needing n (s .past) (s .at) (size + (120 + 120 * j .found .kept)) (i + 1)
+    need-on h j ej s es =
+        let q = nextPast t at (j .letter) p in
         let m = tour-more t n i at p (o .tour) h in
-        record {
-          tour = tour-on n i at p (o .tour) h j ej q eq;
+        subst (λ (x : Stand). Needing n (x .past) (x .at) (size + (120 + 120 * j .found .kept)) (i + 1)) (sym es)
+        (record {
+          tour = tour-on n i at p (o .tour) h j ej q refl;
           small = omega (arith, o .small, kept-few L date t at p (o .tour .going) m j ej, moved L date t at p (o .tour .going) m j ej .some);
-          total = omega (arith, o .total, sets-size n i at p (o .tour) h j ej q eq);
-        }
+          total = omega (arith, o .total, sets-size n i at p (o .tour) h j ej q refl);
+        })
 
     pub need-end : n ≤ i → (size ≡ length (setsIn (turnsIn L date t))) × (size ≤ 762839040)
     need-end h =
@@ -179,11 +182,12 @@ module _ (L : Lines) (date t : Bytes) where
       abbrev filled : Bytes → Bytes
       filled new = take to out ++ (new ++ drop (length out - to) (drop to out))
 
-      pub write-on : (row x : List (List ℕ)) → length row ≡ 96 → x ≡ listed row (findings (here L date t at p)) → (q : Past) (one : ℕ) (new : Bytes) → q ≡ nextPast t at (j .letter) p → one ≡ bit (isA (j .letter)) → one ≤ 1
+      pub write-on : (row x : List (List ℕ)) → length row ≡ 96 → x ≡ listed row (findings (here L date t at p)) → (s : Stand) (one : ℕ) (new : Bytes) → s ≡ standAt (at + j .facts .size) (nextPast t at (j .letter) p) → one ≡ bit (isA (j .letter)) → one ≤ 1
           → 240 + length (setsIn (turnsIn L date t)) ≤ length out₀
           → new ≡ laid (take (length out - to) (drop to out)) 0 (setAs (take (at + j .facts .size - at) (drop at t)) date j x)
-          → Writing n out₀ q (at + j .facts .size) (to + (120 + 120 * j .found .kept)) (acc + one) (i + 1) (filled new)
-      write-on row x w ex q one new eq eo lo f e =
+          → Writing n out₀ (s .past) (s .at) (to + (120 + 120 * j .found .kept)) (acc + one) (i + 1) (filled new)
+      write-on row x w ex s one new es eo lo f e =
+          let q = nextPast t at (j .letter) p in
           let T = here L date t at p in
           let ts = ahead L date t (at + j .facts .size) q in
           let g = o .tour .going in
@@ -192,13 +196,14 @@ module _ (L : Lines) (date t : Bytes) where
           let set : filled new ≡ laid out to (setOf T) =
           lent-laid out (setOf T) new to (length out - to) refl fits (e ∙ ap (laid (take (length out - to) (drop to out)) 0) (set-here L date t at p g m j ej row x w ex)) in
           let next : to + (120 + 120 * j .found .kept) ≡ to + length (setOf T) = omega arith in
-          let turn : ahead L date t at p ≡ T ∷ ts = tour-turn n i at p (o .tour) h j ej q eq in
-          record {
-            tour = tour-on n i at p (o .tour) h j ej q eq;
+          let turn : ahead L date t at p ≡ T ∷ ts = tour-turn n i at p (o .tour) h j ej q refl in
+          subst (λ (x : Stand). Writing n out₀ (x .past) (x .at) (to + (120 + 120 * j .found .kept)) (acc + one) (i + 1) (filled new)) (sym es)
+          (record {
+            tour = tour-on n i at p (o .tour) h j ej q refl;
             same = ap length set ∙ length-laid out to (setOf T) ∙ o .same;
             small = omega (arith, o .small);
             low = omega (arith, o .low, kept-few L date t at p g m j ej, moved L date t at p g m j ej .some);
-            place = omega (arith, o .place, sets-size n i at p (o .tour) h j ej q eq);
+            place = omega (arith, o .place, sets-size n i at p (o .tour) h j ej q refl);
             holds =
                 (λ k. laid (set k) (next k) (setsIn ts)) ∙ laid-append (setOf T) (setsIn ts) out to
                 ∙ ap (λ (x : List Turn). laid out to (setsIn x)) (sym turn) ∙ o .holds;
@@ -206,4 +211,4 @@ module _ (L : Lines) (date t : Bytes) where
                 let a : acceptedIn (ahead L date t at p) ≡ bit (isA (j .letter)) + acceptedIn ts =
                 ap acceptedIn turn ∙ ap (λ (l : Letter). bit (isA l) + acceptedIn ts) (sym (said L date t at p g m j ej)) in
                 omega (arith, o .counts);
-          }
+          })

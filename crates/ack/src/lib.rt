@@ -1,4 +1,5 @@
 // The acknowledgment file of a transmission, and the entry points.
+use judge::Past;
 use pack::Places;
 use pack::Shape;
 use paper::Answer;
@@ -18,8 +19,15 @@ ghost use Rattle.paper.specs.File.{laid};
 ghost use Rattle.paper.specs.Answer.{fileName, prescribed, answer, refusalNumber, numberOf, lengthOf, coded, leftBy};
 ghost use Rattle.pack.specs.Shape.{shapeOf};
 ghost use Rattle.judge.specs.Judged.{searched};
+ghost use Rattle.judge.specs.Seen.{nextPast};
 ghost use Rattle.rejection.specs.Given.{Given};
-ghost use Rattle.ack.specs.Ties.{blocksBy, Begins, turnsIn, setsIn, judgedFile, fileBy, routeBy, routeOf, Written};
+ghost use Rattle.ack.specs.Ties.{blocksBy, Begins, turnsIn, setsIn, judgedFile, fileBy, routeBy, routeOf, standAt, Written};
+
+// Where the next document starts, and what it sees of the earlier ones.
+struct Stand {
+    at: usize,
+    past: Past,
+}
 
 // Where the record sets end, and how many documents are accepted.
 struct Done {
@@ -55,6 +63,14 @@ fn one_if(letter: Letter) -> usize
     }
 }
 
+// On from a document to the next one, which starts at a place.
+fn move_on(t: &[u8], from: usize, letter: Letter, earlier: Past, at: usize) -> Stand
+    ensures { λ s. ⌜ s ≡ standAt at (nextPast (now (t .entry)) from letter earlier) ⌝ }
+{
+    let past = judge::pass(t, from, earlier, letter);
+    Stand { at, past }
+}
+
 // The length of the record sets of all documents.
 fn need(
     t: &[u8],
@@ -69,7 +85,7 @@ fn need(
     ensures { λ r. ⌜ (r ≡ length (setsIn (turnsIn (searched (now (taxpayers .entry)) (now (banks .entry)) (now (filed .entry)) (now (states .entry))) (now (date .entry)) (now (t .entry))))) × (r ≤ 762839040) ⌝ }
 {
     let mut list = [[0usize; 3]; 96];
-    let mut before = judge::no_past();
+    let mut past = judge::no_past();
     let mut at: usize = 240;
     let mut size: usize = 0;
     let mut i: usize = 0;
@@ -82,13 +98,15 @@ fn need(
             filed,
             states,
             date,
-            before,
+            past,
             &mut list,
         );
         let letter = j.letter;
+        let end = at + j.facts.size;
         size += 120 + 120 * j.found.kept;
-        before = judge::pass(t, at, before, letter);
-        at += j.facts.size;
+        let next = move_on(t, at, letter, past, end);
+        past = next.past;
+        at = next.at;
         i += 1;
     }
     size
@@ -167,8 +185,9 @@ fn write_sets(
         sets::put_set(&mut out[to..], &t[at..end], date, j, &list);
         to += 120 + 120 * j.found.kept;
         accepted += one_if(letter);
-        past = judge::pass(t, at, past, letter);
-        at = end;
+        let next = move_on(t, at, letter, past, end);
+        past = next.past;
+        at = next.at;
         i += 1;
     }
     Done { to, accepted }

@@ -60,21 +60,21 @@ write-sets-spec =
     let o = c .one-if .ensures .1 in
     search needs)
     (λ c κs. search needs)
-    (λ c. let i = c .before .before .before .before .before .before .before .before .before .before .before .before in
+    (λ c. let i = c .before .before .before .before .before .before .before .before .before .before .before .before .before in
     let m = i .before .loop .inv .0 .tour .most in
     let t = i .loop-test .taken in
     search needs)
-    (λ c. let i = c .before .before .before .before .before .before .before .before .before .before .before .before in
+    (λ c. let i = c .before .before .before .before .before .before .before .before .before .before .before .before .before in
     let m = i .before .loop .inv .0 .tour .most in
     let t = i .loop-test .taken in
     search needs)
     (λ c.
-    let g = c .before .before .before .before .before .before .before .before .before .before in
+    let g = c .before .before .before .before .before .before .before .before .before .before .before in
     let l = g .before .before .before in
     let s = l .before .before .before .before .before .before .before .before .before in (
       write-on (lines s) (now (s .args .date)) (now (s .args .t)) (s .args .n) (now (s .args .out)) (l .loop .past) (l .loop .at) (l .loop .to) (l .loop .accepted) (l .loop .i) (l .loop .out) (l .loop .inv .0) (g .before .before .loop-test .taken) (g .judge .result) (g .judge .ensures .0)
           (l .loop .list) _ (l .loop .inv .1) (g .judge .ensures .1)
-          (c .pass .result) (c .before .one-if .result) (c .before .before .before .before .before .put-set .last .0) (c .pass .ensures) (c .before .one-if .ensures .0) (c .before .one-if .ensures .1) (s .pre .1) (c .before .before .before .before .before .put-set .ensures),
+          (c .before .move-on .result) (c .before .before .one-if .result) (c .before .before .before .before .before .before .put-set .last .0) (c .before .move-on .ensures) (c .before .before .one-if .ensures .0) (c .before .before .one-if .ensures .1) (s .pre .1) (c .before .before .before .before .before .before .put-set .ensures),
       ap length (g .judge .ensures .1) ∙ listed-long _ _ ∙ l .loop .inv .1,
     ))
     (λ c. c .before .loop .inv .0 .same)
