@@ -1,77 +1,47 @@
-// Acknowledges the tried transmissions in data/ and compares what comes back with the right answers, byte for byte.
+// Acknowledges the tried transmissions in data/ and compares each reply with the right one, byte for byte.
 use libc::STDOUT_FILENO;
-use paper::Answer;
+ghost use mathlib.Core.Path.{_≡_};
+ghost use mathlib.Core.List.{_++_};
+ghost use lib.ListN.{replicate};
 ghost use Rattle.io.specs.Counts.{Counts};
+ghost use Rattle.paper.specs.Bytes.{bytes, written};
+ghost use Rattle.paper.specs.File.{laid};
+ghost use Rattle.vectors.specs.Paths.{pathOf};
 
 const CASES: usize = 145;
 
-fn digit(n: usize) -> u8 {
-    (n % 10) as u8 + 48
-}
-
-// The path of a file of case i: its number, a slash and the file's name, of at most 12 letters.
-fn path_of(i: usize, part: &[u8]) -> [u8; 16] {
+// The folder of case i, and a slash.
+fn folder_of(i: usize) -> [u8; 4]
+    ensures { λ r. ⌜ r ≡ written 3 i ++ bytes "/" ⌝ }
+{
     [
-        digit(i / 100),
-        digit(i / 10),
-        digit(i),
+        (i / 10 / 10 % 10) as u8 + 48,
+        (i / 10 % 10) as u8 + 48,
+        (i % 10) as u8 + 48,
         b'/',
-        text::byte(part, 0),
-        text::byte(part, 1),
-        text::byte(part, 2),
-        text::byte(part, 3),
-        text::byte(part, 4),
-        text::byte(part, 5),
-        text::byte(part, 6),
-        text::byte(part, 7),
-        text::byte(part, 8),
-        text::byte(part, 9),
-        text::byte(part, 10),
-        text::byte(part, 11),
     ]
 }
 
-fn open(i: usize, part: &[u8]) -> i32 {
-    let path = path_of(i, part);
-    if 12 < part.len() {
-        return -1;
-    }
-    os::open_read(text::piece(&path, 0, 4 + part.len()))
+// The path of a part of case i, whose name has at most 12 letters, and zeros after it.
+fn path_of(i: usize, part: &[u8]) -> [u8; 16]
+    ensures { λ r. ⌜ r ≡ laid (replicate 16 0) 0 (pathOf i (now (part .entry))) ⌝ }
+{
+    let mut path = [0u8; 16];
+    let folder = folder_of(i);
+    sets::put(&mut path, 0, &folder);
+    sets::put(&mut path, 4, part);
+    path
 }
 
-// A file of case i, at the start of buf.
+// A part of case i, at the start of buf.
 fn read_part(i: usize, part: &[u8], buf: &mut [u8]) -> usize
     ensures { λ r. ⌜ Counts r (now (buf .exit)) ⌝ }
 {
-    let fd = open(i, part);
-    if fd < 0 {
+    if 12 < part.len() {
         return 0;
     }
-    let got = io::read_full(fd, buf);
-    libc::close(fd);
-    got
-}
-
-// The answer with what the output holds is what the right acknowledgment says.
-fn agrees(a: Answer, out: &[u8], ack: &[u8]) -> bool {
-    match a {
-        Answer::File(n) => text::is_same(text::piece(out, 0, n), ack),
-        Answer::Refused(_) => {
-            let line = [
-                b'r',
-                b'e',
-                b'f',
-                b'u',
-                b's',
-                b'e',
-                b'd',
-                b' ',
-                (ack::number_of(a) % 10) as u8 + 48,
-                10,
-            ];
-            text::is_same(&line, ack)
-        }
-    }
+    let path = path_of(i, part);
+    desk::read_file(text::piece(&path, 0, 4 + part.len()), buf)
 }
 
 fn is_right(i: usize) -> bool {
@@ -86,8 +56,8 @@ fn is_right(i: usize) -> bool {
     let mut right = [0u8; 65537];
     let r = read_part(i, b"ack", &mut right);
     let mut out = io::large_buffer();
-    let a = ack::acknowledge(&sent[..t], &pack[..p], &date[..d], &name[..n], &mut out);
-    agrees(a, &out, &right[..r])
+    let size = reply::reply(&sent[..t], &pack[..p], &date[..d], &name[..n], &mut out);
+    text::is_same(text::piece(&out, 0, size), &right[..r])
 }
 
 fn tell(i: usize) {
