@@ -1,8 +1,8 @@
 -- What is shown of an answer. Assumes nothing.
-use Prim.Native.Nat.{ℕ, _%_, _+_}
+use Prim.Native.Nat.{ℕ}
 use mathlib.Core.Bool.{Bool, true, false, not, cond, _&&_}
-use mathlib.Core.List.{List, [], _∷_, _++_}
-use mathlib.Core.Path.{_≡_, refl, sym, ap, _∙_}
+use mathlib.Core.List.{[], _∷_, _++_}
+use mathlib.Core.Path.{_≡_, refl, sym, _∙_}
 use lib.Dec.{ltb}
 use lib.ListN.{length}
 use Rattle.paper.specs.declared.Answer.{Answer}
@@ -15,11 +15,11 @@ use Rattle.paper.specs.Pack.{wellFormed}
 use Rattle.paper.specs.File.{laid}
 use Rattle.paper.specs.Answer.{fileName, prescribed, answer, refusalNumber, numberOf, leftBy, shown}
 
--- a file's length is told
 module _ (t pack date name : Bytes) (room : ℕ) where
   abbrev file : Bytes
   file = prescribed t pack date name
 
+  -- the length that an answer tells is the file's
   told : (n : ℕ) → answer t pack date name room ≡ File n → n ≡ length (prescribed t pack date name)
   unfolding answer
   told n e = by (ltb 65536 (length t)) (not (wellFormed pack)) (not (validDate date && fileName name)) (ltb room (length file)) e
