@@ -18,7 +18,7 @@ use Rattle.paper.specs.Bytes.{Bytes, bit, those}
 use Rattle.paper.specs.Walk.{step, records, fits, kindOf, is, goesOn, own}
 use Rattle.paper.specs.Conditions.{Sight, View, view, formRules, paymentRules, authRules, summaryRules, rulesOf, holds}
 use Rattle.paper.specs.Judge.{mark, findsIn, findsFrom}
-use Rattle.walk.proofs.Records.{kind-fits}
+use Rattle.paper.proofs.KindLaws.{kind-fits}
 use Rattle.walk.proofs.Loops.{isRecord, Stepped, as-part, own-on, own-stop, own-none, own-end}
 use Rattle.rules.specs.declared.Hits.{Hits}
 use Rattle.rules.specs.Hits.{hitsOf}

@@ -22,7 +22,8 @@ use Rattle.paper.specs.Judge.{start, known, seen, digitsOr, afterKnown, passed,
 use Rattle.layout.proofs.Laws.{entry-low}
 use Rattle.walk.specs.Parts.{docHere}
 use Rattle.walk.proofs.Records.{never}
-use Rattle.walk.proofs.Sound.{is-eq, stands-here}
+use Rattle.paper.proofs.KindLaws.{is-eq}
+use Rattle.walk.proofs.Sound.{stands-here}
 use Rattle.walk.proofs.Loops.{isRecord, Stepped, not-stepped, no-more, as-part}
 use Rattle.judge.specs.declared.Past.{Past}
 use Rattle.judge.specs.declared.Standing.the-variants.{NoDigits, Above, NotAbove}

@@ -25,7 +25,7 @@ use Rattle.paper.specs.Conditions.{Sight, View, sight, view, factsOf}
 use Rattle.paper.specs.Judge.{Case, Turn, known, ssnOf, spouseOf, stateOf, itemOf, ifKnown, asked, findsIn, findsFrom, findings, letterBy, twice, letterOf, sightOf, turn}
 use Rattle.walk.specs.Shape.{rest, docRecords}
 use Rattle.walk.specs.Parts.{docHere}
-use Rattle.walk.proofs.Sound.{is-eq}
+use Rattle.paper.proofs.KindLaws.{is-eq}
 use Rattle.lookup.specs.Find.{countFor, placeFor, keyAt, lineIn, rowsIn}
 use Rattle.judge.specs.declared.Past.{Past}
 use Rattle.judge.specs.Kept.{noFindings, Held, held, listed, counted, keptOf, added}

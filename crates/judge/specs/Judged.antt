@@ -30,6 +30,7 @@ oneLine [] = []
 oneLine (x ∷ l) = (x ∷ l) ∷ []
 
 -- the lines of a key that the searches find in the blocks of these kinds
+-- tied to the paper by `asked-pack` of judge/Ties
 unfoldable pub searched : Bytes → Bytes → Bytes → Bytes → Lines
 searched taxpayers banks filed states k key =
     cond (eqb k 1) (oneLine (lineIn 33 key taxpayers))
@@ -68,6 +69,7 @@ unfoldable pub letterFor : Bytes → ℕ → Bytes → Bytes → Past → Letter
 letterFor t all filed form p =
     letterBy (eqb all 0) (not (empty (lineIn 9 (field L4868 90 form) filed)) || member (field L4868 90 form) (seenBy t p .accepted))
 
+-- tied to the paper by `judged-letter`, `judged-facts` and `judged-keeps` of judge/Ties
 unfoldable pub judgmentOf : Turn → Judgment
 judgmentOf t = record {
   letter = letterOf t;

@@ -28,6 +28,7 @@ abbrev pub held : List (List ℕ) → Findings → Held
 held row f = record { list = row; kept = f .kept; all = f .all; ath = f .ath }
 
 -- the first 96 at the front of the row
+-- tied to the paper by `keeps-first` of judge/Kept
 unfoldable pub listed : List (List ℕ) → List Found → List (List ℕ)
 listed row l = sets row 0 (map triple (take 96 l))
 

@@ -22,9 +22,11 @@ atPlace width place t = cond (eqb place 0) [] (part place width t)
 abbrev pub numbersAt : Bytes → List ℕ → List Bytes
 numbersAt t places = map (λ a. part a 9 t) places
 
+-- tied to the paper by `leaves` and `starts-empty` of judge/Seen
 unfoldable pub seenBy : Bytes → Past → Before
 seenBy t p = record { dsn = atPlace 16 (p .dsn) t; dcn = atPlace 14 (p .dcn) t; accepted = numbersAt t (take (p .n) (p .list)) }
 
+-- tied to the paper by `starts-empty` of judge/Seen
 abbrev pub noPast : Past
 noPast = record { dsn = 0; dcn = 0; list = replicate 94 0; n = 0 }
 
@@ -57,5 +59,6 @@ numbered at form p = record {
 }
 
 -- what the document at a place leaves, with its letter; one of an unknown form is passed over
+-- tied to the paper by `leaves` of judge/Seen
 unfoldable pub nextPast : Bytes → ℕ → Letter → Past → Past
 nextPast t at l p = cond (known (docHere (drop at t))) (numbered at (docHere (drop at t) .main) (lettered at l p)) p

@@ -13,7 +13,8 @@ use lib.Seq.{take-take, drop-drop, getD-drop}
 use borrow.Author.Tests.{eq-eqb, eqb-true, eqb-false, ltb-true, ltb-false}
 use Rattle.paper.specs.Bytes.{Bytes, every, those, same, before, empty, firstOr}
 use Rattle.paper.specs.Pack.{widthOf, riseOf, goodLine, rows, linesIn, risesFrom, rises, goodBody, wellFormed, blockOf, keyed, Blocks, blocksOf, block, Lines, linesOf}
-use Rattle.text.proofs.Laws.{same-eq, same-apart}
+use Rattle.paper.proofs.Laws.{same-eq}
+use Rattle.text.proofs.Laws.{same-apart}
 use Rattle.lines.proofs.Rows.{width-some, no-rows}
 use Rattle.pack.proofs.Blocks.{clash, both}
 use Rattle.pack.proofs.Laws.{body-at}

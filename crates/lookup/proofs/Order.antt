@@ -12,7 +12,7 @@ use lib.ListN.{take}
 use lib.Seq.{take-nil}
 use borrow.Author.Tests.{eq-eqb, ne-eqb, lt-ltb, le-ltb, ltb-true, ltb-false, eqb-true, eqb-false}
 use Rattle.paper.specs.Bytes.{Bytes, same, before}
-use Rattle.text.proofs.Laws.{same-eq}
+use Rattle.paper.proofs.Laws.{same-eq}
 use Rattle.pack.proofs.Blocks.{clash}
 
 -- the two ways in which one list comes before another

@@ -44,12 +44,14 @@ abbrev pub linesFrom : ℕ → ℕ → ℕ → Bytes → List Bytes
 linesFrom i n w s = rows (n - i) w (drop (i * w) s)
 
 -- the line with the key, or no byte
+-- tied to the paper by `line-found` of lookup/Laws
 unfoldable pub lineIn : ℕ → Bytes → Bytes → Bytes
 lineIn w key s =
     cond (ltb (placeFor w key s) (countFor w key s) && same (keyAt w (length key) s (placeFor w key s)) key)
     (part (placeFor w key s * w) w s) []
 
 -- the lines with the key, as bytes
+-- tied to the paper by `rows-found` of lookup/Laws
 unfoldable pub rowsIn : ℕ → Bytes → Bytes → Bytes
 rowsIn w key s = part (placeFor w key s * w) (length (lead key (linesFrom (placeFor w key s) (countFor w key s) w s)) * w) s
 

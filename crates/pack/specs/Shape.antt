@@ -25,9 +25,11 @@ placeOf (suc k) s = placeAt (past (placeOf k s)) (suc k) s
 unfoldable pub placesOf : Bytes → Places
 placesOf s = record { one = placeOf 1 s; two = placeOf 2 s; three = placeOf 3 s; four = placeOf 4 s; five = placeOf 5 s }
 
+-- tied to the paper by `shape-good` and `shape-bad` of pack/Laws
 unfoldable pub shapeOf : Bytes → Shape
 shapeOf s = cond (wellFormed s) (Good (placesOf s)) Bad
 
 -- the bytes at a place
+-- tied to the paper by `blocks-there` of pack/Laws
 abbrev pub linesAt : Place → Bytes → Bytes
 linesAt p s = part (p .start) (p .size) s

@@ -4,9 +4,10 @@ use mathlib.Core.List.{List, [], _∷_}
 use Prim.Native.Nat.{ℕ, zero, suc, _+_, _<_, _≤_}
 use native.Mathlib.Numerals.{add-one}
 use lib.ListN.{length, getD, set, drop}
-use lib.Seq.{sets, length-sets}
+use lib.Seq.{sets}
 use native.Mathlib.Omega.{arith}
 use Rattle.paper.proofs.Laws.{next, ended}
+use Rattle.paper.proofs.LetterShown.{length-laid}
 use Rattle.paper.specs.declared.Layout.{Layout}
 use Rattle.paper.specs.declared.Verdict.{Verdict}
 use Rattle.paper.specs.Bytes.{Bytes}
@@ -46,10 +47,6 @@ onto q r e t k v w = v ∙ ap (λ (s : List ℕ). laid s k t) w
 pub ruleset one-by-one = onto
 
 -- EVERY RECORD HAS 120 BYTES
-
-pub length-laid : (r : List ℕ) (at : ℕ) (t : List ℕ) → length (laid r at t) ≡ length r
-unfolding laid
-length-laid r at t = length-sets r at t
 
 length-fields : (l : Layout) (r : Bytes) (fs : List (ℕ × Bytes)) → length (fields l r fs) ≡ length r
 length-fields l r [] = refl

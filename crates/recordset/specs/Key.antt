@@ -10,6 +10,7 @@ use Rattle.paper.specs.Layouts.{field}
 use Rattle.paper.specs.File.{keyRecord, orZeros, pinByte, dateFor, literalFor}
 
 -- the first record of `setBy`, for so many Error records
+-- tied to the paper by `set-parts` of recordset/Laws
 unfoldable pub keyOf : Bytes → Bool → Bytes → Letter → Facts → ℕ → Bool → Bytes
 keyOf main known date l f errors athFound =
     keyRecord (orZeros known 9 (field L4868 90 main)) (orZeros known 16 (field L4868 7 main)) (Judged l) (pinByte known athFound f)

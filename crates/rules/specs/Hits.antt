@@ -8,6 +8,7 @@ use Rattle.paper.specs.Bytes.{those}
 use Rattle.rules.specs.declared.Hits.{Hits}
 
 -- the rules at the front of the row, and their number
+-- tied to the paper by `record-found` of judge/Found
 abbrev pub hitsOf : List ℕ → Hits
 hitsOf l = record { rules = sets (replicate 44 0) 0 l; n = length l }
 

@@ -33,6 +33,7 @@ firsts zero row = []
 firsts (suc n) row = getD row 0 [] ∷ firsts n (drop 1 row)
 
 -- the opening record's fields are read in the document's bytes
+-- tied to the paper by `set-here` of ack/Onward
 unfoldable pub setAs : Bytes → Bytes → Judgment → List (List ℕ) → Bytes
 setAs doc date j row =
     setBy doc doc (j .known) date (j .letter) (j .facts) (map foundBy (firsts (min (j .found .kept) 96) row)) (j .found .ath)

@@ -1,0 +1,56 @@
+-- The kind of a record: by its number, and what a record of it has; an order that is broken. Assumes nothing.
+use Prim.Native.Nat.{ℕ}
+use mathlib.Core.Bool.{Bool, true, false, cond}
+use mathlib.Core.List.{List, [], _∷_}
+use mathlib.Core.Path.{_≡_, refl, sym, ap, _∙_, subst}
+use borrow.Author.Tests.{eqb-true}
+use lib.Dec.{eqb}
+use lib.ListN.{length}
+use Rattle.paper.specs.declared.Kind.{Kind}
+use Rattle.paper.specs.declared.Kind.the-variants.{TranA, TranB, Form, Unknown, Payment, Auth, Summary, Recap, Stray}
+use Rattle.paper.specs.declared.Order.the-variants.{Broken}
+use Rattle.paper.specs.Bytes.{Bytes}
+use Rattle.paper.specs.Walk.{fits, named, kindOf, kindNumber, is, ordered}
+
+abbrev kindFrom : ℕ → Kind
+kindFrom n =
+    cond (eqb n 0) TranA
+    (cond (eqb n 1) TranB
+    (cond (eqb n 2) Form
+    (cond (eqb n 3) Unknown
+    (cond (eqb n 4) Payment
+    (cond (eqb n 5) Auth
+    (cond (eqb n 6) Summary
+    (cond (eqb n 7) Recap Stray)))))))
+
+back : (k : Kind) → kindFrom (kindNumber k) ≡ k
+back TranA = refl
+back TranB = refl
+back Form = refl
+back Unknown = refl
+back Payment = refl
+back Auth = refl
+back Summary = refl
+back Recap = refl
+back Stray = refl
+
+pub is-eq : (k l : Kind) → is k l ≡ true → l ≡ k
+is-eq k l h = sym (sym (back k) ∙ ap kindFrom (eqb-true (kindNumber k) (kindNumber l) h) ∙ back l)
+
+-- a kind has its length
+pub kind-fits : (r : Bytes) → fits (kindOf r) (length r) ≡ true
+unfolding kindOf
+kind-fits r = by (fits (named r) (length r)) refl
+  where
+    by : (b : Bool) → fits (named r) (length r) ≡ b → fits (cond b (named r) Stray) (length r) ≡ true
+    by true e = e
+    by false e = refl
+
+-- of a kind that is asked for
+pub of-kind : (k : Kind) (r : Bytes) → is k (kindOf r) ≡ true → fits k (length r) ≡ true
+of-kind k r h = subst (λ (l : Kind). fits l (length r) ≡ true) (is-eq k (kindOf r) h) (kind-fits r)
+
+-- what is out of order stays so
+pub broken-stays : (rs : List Bytes) → ordered Broken rs ≡ Broken
+broken-stays [] = refl
+broken-stays (r ∷ rs) = broken-stays rs
