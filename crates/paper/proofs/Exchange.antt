@@ -4,6 +4,7 @@ use mathlib.Core.Bool.{true}
 use mathlib.Core.List.{List, [], _∷_}
 use mathlib.Core.Logic.{_≢_}
 use mathlib.Core.Path.{_≡_, refl, sym, _∙_}
+use borrow.Author.Tests.{eqb-true}
 use lib.Dec.{leb}
 use lib.ListN.{length, drop, getD}
 use Rattle.paper.specs.Bytes.{Bytes}
@@ -35,8 +36,20 @@ in-place = record {
     after-it = one-more (records afterIt) (exchange .one-after);
     fresh = exchange .fresh;
   };
-  old = record { reads = one-more (records unpaid) (exchange .old-reads); opens = exchange .old-opens; goes-on = exchange .old-goes-on; in-order = exchange .old-in-order };
-  new = record { reads = one-more (records paid) (exchange .new-reads); opens = exchange .new-opens; goes-on = exchange .new-goes-on; in-order = exchange .new-in-order };
+  old = record {
+    reads = one-more (records unpaid) (exchange .old-reads);
+    id = same-eq _ _ (exchange .old-id);
+    form = same-eq _ _ (exchange .old-form);
+    size = eqb-true _ _ (exchange .old-size);
+    follows = exchange .old-follows;
+  };
+  new = record {
+    reads = one-more (records paid) (exchange .new-reads);
+    id = same-eq _ _ (exchange .new-id);
+    form = same-eq _ _ (exchange .new-form);
+    size = eqb-true _ _ (exchange .new-size);
+    follows = exchange .new-follows;
+  };
   alike = record {
     sequence = same-eq _ _ (exchange .sequence);
     control = same-eq _ _ (exchange .control);

@@ -9,8 +9,8 @@ use lib.ListN.{length}
 use Rattle.paper.specs.declared.Kind.{Kind}
 use Rattle.paper.specs.declared.Kind.the-variants.{TranA, TranB, Form, Unknown, Payment, Auth, Summary, Recap, Stray}
 use Rattle.paper.specs.declared.Order.the-variants.{Broken}
-use Rattle.paper.specs.Bytes.{Bytes}
-use Rattle.paper.specs.Walk.{fits, named, kindOf, kindNumber, is, ordered}
+use Rattle.paper.specs.Bytes.{Bytes, bytes, part}
+use Rattle.paper.specs.Walk.{fits, namedForm, named, kindOf, kindNumber, is, ordered}
 
 abbrev kindFrom : ℕ → Kind
 kindFrom n =
@@ -49,6 +49,23 @@ kind-fits r = by (fits (named r) (length r)) refl
 -- of a kind that is asked for
 pub of-kind : (k : Kind) (r : Bytes) → is k (kindOf r) ≡ true → fits k (length r) ≡ true
 of-kind k r h = subst (λ (l : Kind). fits l (length r) ≡ true) (is-eq k (kindOf r) h) (kind-fits r)
+
+-- a record is of its kind by its id, form number and length, whatever else stands in it
+pub kind-form : (r : Bytes) → part 8 6 r ≡ bytes "FRM   " → part 14 6 r ≡ bytes "4868  " → length r ≡ 384 → kindOf r ≡ Form
+unfolding kindOf named namedForm
+kind-form r i f n = rw (i, f, n)
+
+pub kind-payment : (r : Bytes) → part 8 6 r ≡ bytes "FRM   " → part 14 6 r ≡ bytes "PMT   " → length r ≡ 123 → kindOf r ≡ Payment
+unfolding kindOf named namedForm
+kind-payment r i f n = rw (i, f, n)
+
+pub kind-auth : (r : Bytes) → part 8 6 r ≡ bytes "ATH   " → length r ≡ 340 → kindOf r ≡ Auth
+unfolding kindOf named
+kind-auth r i n = rw (i, n)
+
+pub kind-summary : (r : Bytes) → part 8 6 r ≡ bytes "SUM   " → length r ≡ 314 → kindOf r ≡ Summary
+unfolding kindOf named
+kind-summary r i n = rw (i, n)
 
 -- what is out of order stays so
 pub broken-stays : (rs : List Bytes) → ordered Broken rs ≡ Broken
