@@ -1,11 +1,7 @@
 // Dates of the Gregorian calendar, as YYYYMMDD.
 ghost use mathlib.Core.Path.{_≡_};
-ghost use Prim.Native.Nat.{_≤_, _<_};
-ghost use lib.ListN.{getD};
-ghost use Rattle.paper.specs.Fields.{leapYear, monthLengths, lastDay, dayOfYear, validDate};
-
-// The days of the months, of a year that is no leap year.
-const MONTH_LENGTHS: [u32; 12] = [31, 28, 31, 30, 31, 30, 31, 31, 30, 31, 30, 31];
+ghost use Prim.Native.Nat.{_≤_};
+ghost use Rattle.paper.specs.Fields.{leapYear, lastDay, dayOfYear, validDate};
 
 fn leap_year(y: u32) -> bool
     ensures { λ r. ⌜ r ≡ leapYear y ⌝ }
@@ -13,13 +9,7 @@ fn leap_year(y: u32) -> bool
     (y % 4 == 0) & (!(y % 100 == 0) | (y % 400 == 0))
 }
 
-fn month_length(i: usize) -> u32
-    requires { ⌜ i < 12 ⌝ }
-    ensures { λ r. ⌜ r ≡ getD monthLengths i 0 ⌝ }
-{
-    MONTH_LENGTHS[i]
-}
-
+// Of month m in year y: outside February 31 and 30 in turn, and from August on, where m / 8 is 1, in turn anew.
 fn last_day(y: u32, m: u32) -> u32
     requires { ⌜ (1 ≤ m) × (m ≤ 12) ⌝ }
     ensures { λ r. ⌜ r ≡ lastDay y m ⌝ }
@@ -27,7 +17,10 @@ fn last_day(y: u32, m: u32) -> u32
     if (m == 2) & leap_year(y) {
         return 29;
     }
-    month_length((m - 1) as usize)
+    if m == 2 {
+        return 28;
+    }
+    30 + (m + m / 8) % 2
 }
 
 fn day_of_year(y: u32, m: u32, d: u32) -> bool

@@ -1,4 +1,5 @@
 use Rattle.paper.specs.Fields.{lastDay}
+use borrow.Author.Tests.{eq-eqb, ne-eqb}
 use borrow.Author.Needs.{needs}
 use Rattle.date.proofs.last_day.Statement.{statement}
 use Rattle.date.proofs.last_day.Tie as tie
@@ -10,7 +11,7 @@ last-day-spec =
     (tie.spec
     (λ c κs. search needs)
     (λ c. rw (← c .before .leap-year .ensures, c .if1 .taken))
+    (λ c. rw (← c .before .before .leap-year .ensures, c .before .if1 .left, eq-eqb _ _ (c .if2 .taken)))
     (λ c. search needs)
     (λ c. search needs)
-    (λ c κs. search needs)
-    (λ c. rw (← c .before .before .leap-year .ensures, c .before .if1 .left) (c .month-length .ensures)))
+    (λ c. rw (← c .before .before .leap-year .ensures, c .before .if1 .left, ne-eqb _ _ (c .if2 .left))))
