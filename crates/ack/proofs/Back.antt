@@ -17,7 +17,7 @@ use Rattle.paper.specs.Walk.{kindOf}
 use Rattle.paper.specs.Conditions.{Sight, ofKind, view, holds, formRules, paymentRules, authRules, summaryRules, rulesOf}
 use Rattle.paper.specs.Judge.{Item, Turn, mark, findsIn, findsFrom, findings, sightOf}
 use Rattle.paper.proofs.Flow.{and-both}
-use Rattle.walk.proofs.Records.{never}
+use Rattle.paper.proofs.Laws.{both}
 use Rattle.judge.specs.Kept.{triple, listed, counted}
 use Rattle.judge.proofs.Kept.{keeps-first}
 use Rattle.sets.specs.Set.{foundBy, firsts}
@@ -43,10 +43,6 @@ rules-low Auth = refl
 rules-low Summary = refl
 rules-low Recap = refl
 rules-low Stray = refl
-
-both : (a b : Bool) → (a && b) ≡ true → (a ≡ true) × (b ≡ true)
-both true b h = (refl, h)
-both false b h = absurd (never h)
 
 those-low : (p : ℕ → Bool) (rs : List ℕ) → every low rs ≡ true → every low (those p rs) ≡ true
 those-low p [] h = refl

@@ -13,8 +13,9 @@ use Rattle.paper.specs.Walk.{Doc, countOf, starts, records, named, kindOf, is, 
 use Rattle.paper.specs.Conditions.{View, view, rulesOf, holds}
 use Rattle.paper.specs.Judge.{Before, Turn, known, asked, mark, findsIn, findings, turn, turns, after, letterOf, sightOf}
 use Rattle.paper.specs.File.{onAuth, bytesOf, setOf}
-use Rattle.walk.proofs.Records.{never, starts-bounds, records-end, records-more, records-none, record-length, along}
-use Rattle.walk.proofs.Docs.{kind-length}
+use Rattle.walk.proofs.Records.{starts-bounds, records-end, records-more, records-none, record-length, along}
+use Rattle.paper.proofs.Laws.{never}
+use Rattle.paper.proofs.KindLaws.{kind-length}
 use Rattle.judge.proofs.Whole.{caseIf, asked-if}
 use Rattle.recordset.proofs.Laws.{length-setBy}
 use Rattle.ack.specs.Ties.{setsIn}

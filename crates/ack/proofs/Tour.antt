@@ -23,7 +23,7 @@ use Rattle.judge.specs.Judged.{judgmentOf}
 use Rattle.judge.specs.Seen.{noPast, seenBy, nextPast}
 use Rattle.judge.proofs.Seen.{starts-empty}
 use Rattle.sets.specs.Set.{setAs}
-use Rattle.paper.proofs.LetterShown.{length-laid}
+use Rattle.paper.proofs.RecordSizes.{length-laid}
 use Rattle.sets.proofs.Laws.{laid-append, lent-laid}
 use Rattle.ack.specs.declared.Done.{Done}
 use Rattle.ack.specs.declared.Stand.{Stand}

@@ -15,7 +15,7 @@ use Rattle.paper.specs.Pack.{Lines}
 use Rattle.paper.specs.Walk.{records, twelve, docsOf}
 use Rattle.paper.specs.Judge.{Before, Case, Turn, turn, turns, after, asked, start, known}
 use Rattle.paper.specs.File.{laid, recapRecord, acceptedIn}
-use Rattle.record.proofs.Laws.{length-recap}
+use Rattle.paper.proofs.RecordSizes.{length-recap}
 use Rattle.sets.proofs.Laws.{laid-append}
 use Rattle.walk.specs.Parts.{Parts}
 use Rattle.walk.proofs.Laws.{tail}

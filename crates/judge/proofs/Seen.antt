@@ -21,7 +21,7 @@ use Rattle.paper.specs.Walk.{step, records, kindOf, is}
 use Rattle.paper.specs.Judge.{start, known, seen, digitsOr, afterKnown, passed, isA, asked, turn, after, letterOf}
 use Rattle.layout.proofs.Laws.{entry-low}
 use Rattle.walk.specs.Parts.{docHere}
-use Rattle.walk.proofs.Records.{never}
+use Rattle.paper.proofs.Laws.{never}
 use Rattle.paper.proofs.KindLaws.{is-eq}
 use Rattle.walk.proofs.Sound.{stands-here}
 use Rattle.walk.proofs.Loops.{isRecord, Stepped, not-stepped, no-more, as-part}

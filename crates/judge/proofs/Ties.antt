@@ -21,7 +21,7 @@ use Rattle.paper.specs.Judge.{Before, Turn, known, ssnOf, spouseOf, stateOf, it
 use Rattle.paper.specs.File.{setBy, bytesOf, setOf}
 use Rattle.walk.specs.Shape.{docRecords}
 use Rattle.walk.specs.Parts.{docHere}
-use Rattle.walk.proofs.Records.{never}
+use Rattle.paper.proofs.Laws.{never}
 use Rattle.walk.proofs.Docs.{long-doc}
 use Rattle.lookup.specs.Find.{sought}
 use Rattle.lookup.proofs.Laws.{taxpayer-sought, bank-sought, filed-sought, states-sought, sought-lines}

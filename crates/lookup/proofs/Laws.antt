@@ -13,10 +13,9 @@ use lib.Seq.{take-take, drop-drop, getD-drop}
 use borrow.Author.Tests.{eq-eqb, eqb-true, eqb-false, ltb-true, ltb-false}
 use Rattle.paper.specs.Bytes.{Bytes, every, those, same, before, empty, firstOr}
 use Rattle.paper.specs.Pack.{widthOf, riseOf, goodLine, rows, linesIn, risesFrom, rises, goodBody, wellFormed, blockOf, keyed, Blocks, blocksOf, block, Lines, linesOf}
-use Rattle.paper.proofs.Laws.{same-eq}
+use Rattle.paper.proofs.Laws.{never, both, same-eq}
 use Rattle.text.proofs.Laws.{same-apart}
 use Rattle.lines.proofs.Rows.{width-some, no-rows}
-use Rattle.pack.proofs.Blocks.{clash, both}
 use Rattle.pack.proofs.Laws.{body-at}
 use Rattle.lookup.specs.Find.{bisect, keyAt, below, countFor, placeFor, lead, linesFrom, lineIn, rowsIn, sought}
 use Rattle.lookup.proofs.Order.{before-trans, before-irrefl, before-other, before-total, before-left, before-right, before-takes}
@@ -87,7 +86,7 @@ module _ (key : Bytes) where
       past : keyed key l ≡ false → before key (take (length key) l) ≡ true
       past e =
           ⊎-elim (λ (h : before key (take (length key) l) ≡ true). h)
-          (λ (h : take (length key) l ≡ key). absurd (clash (sym e ∙ ap (λ (x : Bytes). same x key) h ∙ same-self key)))
+          (λ (h : take (length key) l ≡ key). absurd (never (sym e ∙ ap (λ (x : Bytes). same x key) h ∙ same-self key)))
           (before-total (take (length key) l) key (high zero (suc-le-suc zero-le)))
 
       go : lead key ls ≡ those (keyed key) ls → (b : Bool) → keyed key l ≡ b → cond b (l ∷ lead key ls) [] ≡ cond b (l ∷ those (keyed key) ls) (those (keyed key) ls)

@@ -12,8 +12,7 @@ use lib.ListN.{take}
 use lib.Seq.{take-nil}
 use borrow.Author.Tests.{eq-eqb, ne-eqb, lt-ltb, le-ltb, ltb-true, ltb-false, eqb-true, eqb-false}
 use Rattle.paper.specs.Bytes.{Bytes, same, before}
-use Rattle.paper.proofs.Laws.{same-eq}
-use Rattle.pack.proofs.Blocks.{clash}
+use Rattle.paper.proofs.Laws.{never, same-eq}
 
 -- the two ways in which one list comes before another
 view : (x y : ℕ) (s t : Bytes) → before (x ∷ s) (y ∷ t) ≡ true → (x < y) ⊎ ((x ≡ y) × (before s t ≡ true))
@@ -21,7 +20,7 @@ view x y s t e = go (ltb x y) refl e
   where
     on : (q : Bool) → eqb x y ≡ q → (q && before s t) ≡ true → (x < y) ⊎ ((x ≡ y) × (before s t ≡ true))
     on true h f = inr (eqb-true x y h, f)
-    on false h f = absurd (clash f)
+    on false h f = absurd (never f)
 
     go : (q : Bool) → ltb x y ≡ q → (q || eqb x y && before s t) ≡ true → (x < y) ⊎ ((x ≡ y) × (before s t ≡ true))
     go true h f = inl (ltb-true x y h)
@@ -34,11 +33,11 @@ later : (x y : ℕ) (s t : Bytes) → x ≡ y → before s t ≡ true → before
 later x y s t e h = simp (le-ltb x y (omega arith), eq-eqb x y e, h)
 
 pub before-trans : (a b c : Bytes) → before a b ≡ true → before b c ≡ true → before a c ≡ true
-before-trans [] [] c p q = absurd (clash p)
-before-trans [] (y ∷ t) [] p q = absurd (clash q)
+before-trans [] [] c p q = absurd (never p)
+before-trans [] (y ∷ t) [] p q = absurd (never q)
 before-trans [] (y ∷ t) (z ∷ u) p q = refl
-before-trans (x ∷ s) [] c p q = absurd (clash p)
-before-trans (x ∷ s) (y ∷ t) [] p q = absurd (clash q)
+before-trans (x ∷ s) [] c p q = absurd (never p)
+before-trans (x ∷ s) (y ∷ t) [] p q = absurd (never q)
 before-trans (x ∷ s) (y ∷ t) (z ∷ u) p q = go (view x y s t p) (view y z t u q) (before-trans s t u)
   where
     go : (x < y) ⊎ ((x ≡ y) × (before s t ≡ true)) → (y < z) ⊎ ((y ≡ z) × (before t u ≡ true))
@@ -49,7 +48,7 @@ before-trans (x ∷ s) (y ∷ t) (z ∷ u) p q = go (view x y s t p) (view y z t
     go (inr h) (inr l) r = later x z s u (h .0 ∙ l .0) (r (h .1) (l .1))
 
 pub before-irrefl : (a : Bytes) → before a a ≡ true → ⊥
-before-irrefl [] e = clash e
+before-irrefl [] e = never e
 before-irrefl (x ∷ s) e = go (view x x s s e) (before-irrefl s)
   where
     go : (x < x) ⊎ ((x ≡ x) × (before s s ≡ true)) → (before s s ≡ true → ⊥) → ⊥
@@ -67,13 +66,13 @@ before-other a b h = go (same a b) refl
 -- of two lists one comes before the other, or they are the same
 pub before-total : (a b : Bytes) → before a b ≡ false → (before b a ≡ true) ⊎ (a ≡ b)
 before-total [] [] e = inr refl
-before-total [] (y ∷ t) e = absurd (clash (sym e))
+before-total [] (y ∷ t) e = absurd (never (sym e))
 before-total (x ∷ s) [] e = inl refl
 before-total (x ∷ s) (y ∷ t) e = go (ltb x y) refl (eqb x y) refl e (before-total s t)
   where
     go : (p : Bool) → ltb x y ≡ p → (q : Bool) → eqb x y ≡ q → (p || q && before s t) ≡ false
         → (before s t ≡ false → (before t s ≡ true) ⊎ (s ≡ t)) → (before (y ∷ t) (x ∷ s) ≡ true) ⊎ ((x ∷ s) ≡ (y ∷ t))
-    go true h q l f r = absurd (clash (sym f))
+    go true h q l f r = absurd (never (sym f))
     go false h false l f r = inl (first y x t s (omega (arith, ltb-false x y h, eqb-false x y l)))
     go false h true l f r =
         ⊎-elim (λ (b : before t s ≡ true). inl (later y x t s (sym (eqb-true x y l)) b)) (λ (b : s ≡ t). inr (λ i. eqb-true x y l i ∷ b i)) (r f)
@@ -96,13 +95,13 @@ before-right a b c h e = ⊎-elim (λ (l : before a b ≡ true). before-trans c 
 -- where the first k bytes ascend, the first j do not descend
 pub before-takes : (k j : ℕ) (a b : Bytes) → before (take k a) (take k b) ≡ true → before (take j b) (take j a) ≡ false
 before-takes k zero a b e = refl
-before-takes k (suc j) a [] e = absurd (clash (sym (none (take k a)) ∙ subst (λ (l : Bytes). before (take k a) l ≡ true) (take-nil k) e))
+before-takes k (suc j) a [] e = absurd (never (sym (none (take k a)) ∙ subst (λ (l : Bytes). before (take k a) l ≡ true) (take-nil k) e))
   where
     none : (l : Bytes) → before l [] ≡ false
     none [] = refl
     none (x ∷ l) = refl
 before-takes k (suc j) [] (y ∷ t) e = refl
-before-takes zero (suc j) (x ∷ s) (y ∷ t) e = absurd (clash e)
+before-takes zero (suc j) (x ∷ s) (y ∷ t) e = absurd (never e)
 before-takes (suc k) (suc j) (x ∷ s) (y ∷ t) e = go (view x y (take k s) (take k t) e) (before-takes k j s t)
   where
     go : (x < y) ⊎ ((x ≡ y) × (before (take k s) (take k t) ≡ true)) → (before (take k s) (take k t) ≡ true → before (take j t) (take j s) ≡ false)

@@ -10,6 +10,7 @@ use lib.Seq.{take-all, drop-drop}
 use borrow.Author.Tests.{eq-eqb, ne-eqb, le-leb, lt-leb, leb-true, not-true, not-false, eqb-true, eqb-false}
 use Rattle.paper.specs.Bytes.{Bytes}
 use Rattle.paper.specs.Pack.{goodBody, sizeSaid, kindSaid, body, after, goodBlock, goodBlocks}
+use Rattle.paper.proofs.Laws.{both}
 use Rattle.text.proofs.Laws.{piece-whole}
 
 -- the part `&s[at..]`
@@ -37,14 +38,6 @@ module _ (k : ℕ) (s : Bytes) where
       block-end r l g =
           g ∙ ap (goodBody k) (piece-whole s 6 z ∙ ap (λ (n : ℕ). take n (drop 6 s)) f)
           ∙ simp (le-leb 6 (length s) h, ← e, eq-eqb q k d, ← f, le-leb (6 + z) (length s) l)
-
-pub clash : false ≡ true → ⊥
-clash e = let z : _≡_ {A = ℕ} 0 1 = cc in omega arith
-
--- a conjunction's two parts
-pub both : (x y : Bool) → (x && y) ≡ true → (x ≡ true) × (y ≡ true)
-both true y e = (refl, e)
-both false y e = absurd (clash e)
 
 -- a good block lies within the list, and its lines are good
 module _ (k : ℕ) (s : Bytes) (e : goodBlock k s ≡ true) where

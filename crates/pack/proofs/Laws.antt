@@ -15,7 +15,8 @@ use Rattle.pack.specs.declared.Place.{Place}
 use Rattle.pack.specs.declared.Places.{Places}
 use Rattle.pack.specs.declared.Shape.the-variants.{Good, Bad}
 use Rattle.pack.specs.Shape.{placeAt, past, placeOf, placesOf, shapeOf, linesAt}
-use Rattle.pack.proofs.Blocks.{tail-is, clash, both, block-fits, block-body, after-is}
+use Rattle.paper.proofs.Laws.{never, both}
+use Rattle.pack.proofs.Blocks.{tail-is, block-fits, block-body, after-is}
 
 -- one block more to skip
 skip-more : (n : ℕ) (s : Bytes) → skip (suc n) s ≡ after (skip n s)
@@ -119,14 +120,14 @@ shape-good s p e = go (wellFormed s) refl e
   where
     go : (b : Bool) → wellFormed s ≡ b → cond b (Good (placesOf s)) Bad ≡ Good p → (wellFormed s ≡ true) × (p ≡ placesOf s)
     go true w f = (w, cc)
-    go false w f = absurd (clash (let z : false ≡ true = cc in z))
+    go false w f = absurd (never (let z : false ≡ true = cc in z))
 
 pub shape-bad : (s : Bytes) → shapeOf s ≡ Bad → wellFormed s ≡ false
 unfolding shapeOf
 shape-bad s e = go (wellFormed s) refl e
   where
     go : (b : Bool) → wellFormed s ≡ b → cond b (Good (placesOf s)) Bad ≡ Bad → wellFormed s ≡ false
-    go true w f = absurd (clash (let z : false ≡ true = cc in z))
+    go true w f = absurd (never (let z : false ≡ true = cc in z))
     go false w f = w
 
 -- the lines at the five places are the pack's blocks

@@ -9,8 +9,8 @@ use lib.Dec.{leb}
 use lib.ListN.{length, drop, getD}
 use Rattle.paper.specs.Bytes.{Bytes}
 use Rattle.paper.specs.Walk.{records}
-use Rattle.paper.specs.Hidden.{setAt, InPlace}
-use Rattle.paper.specs.Samples.{twoPack, beforeIt, unpaid, paid, afterIt, docIn, day, old, new, exchange}
+use Rattle.paper.specs.Hidden.{setAt, Document, InPlace}
+use Rattle.paper.specs.Samples.{twoPack, beforeIt, unpaid, paid, afterIt, docIn, day, old, new, OneDocument, exchange}
 use Rattle.paper.proofs.Laws.{never, same-eq}
 use Rattle.paper.proofs.OtherSets.{others-same}
 
@@ -22,6 +22,15 @@ two-more : (rs : List Bytes) → leb 2 (length rs) ≡ true → rs ≡ getD rs 0
 two-more [] e = absurd (never e)
 two-more (r ∷ []) e = absurd (never e)
 two-more (r ∷ q ∷ rs) e = refl
+
+document : (x : Bytes) → OneDocument x → Document x (docIn x)
+document x d = record {
+  reads = one-more (records x) (d .reads);
+  id = same-eq _ _ (d .id);
+  form = same-eq _ _ (d .form);
+  size = eqb-true _ _ (d .size);
+  follows = d .follows;
+}
 
 in-place : InPlace twoPack day beforeIt afterIt unpaid paid (docIn unpaid) (docIn paid)
 in-place = record {
@@ -36,26 +45,14 @@ in-place = record {
     after-it = one-more (records afterIt) (exchange .one-after);
     fresh = exchange .fresh;
   };
-  old = record {
-    reads = one-more (records unpaid) (exchange .old-reads);
-    id = same-eq _ _ (exchange .old-id);
-    form = same-eq _ _ (exchange .old-form);
-    size = eqb-true _ _ (exchange .old-size);
-    follows = exchange .old-follows;
-  };
-  new = record {
-    reads = one-more (records paid) (exchange .new-reads);
-    id = same-eq _ _ (exchange .new-id);
-    form = same-eq _ _ (exchange .new-form);
-    size = eqb-true _ _ (exchange .new-size);
-    follows = exchange .new-follows;
-  };
+  old = document unpaid (exchange .old-document);
+  new = document paid (exchange .new-document);
   alike = record {
     sequence = same-eq _ _ (exchange .sequence);
     control = same-eq _ _ (exchange .control);
     number = same-eq _ _ (exchange .number);
   };
-  judged-whole = exchange .judged-whole;
+  not-rejected = exchange .not-rejected;
   accepted = rw (exchange .place) (exchange .old-accepted ∙ sym (exchange .new-accepted));
 }
 

@@ -2,7 +2,7 @@
 use Prim.Native.Nat.{ℕ}
 use mathlib.Core.Bool.{Bool, true, false, cond}
 use mathlib.Core.List.{List, [], _∷_}
-use mathlib.Core.Path.{_≡_, refl, sym, ap, _∙_, subst}
+use mathlib.Core.Path.{_≡_, refl, sym, ap, _∙_}
 use borrow.Author.Tests.{eqb-true}
 use lib.Dec.{eqb}
 use lib.ListN.{length}
@@ -47,8 +47,8 @@ kind-fits r = by (fits (named r) (length r)) refl
     by false e = refl
 
 -- of a kind that is asked for
-pub of-kind : (k : Kind) (r : Bytes) → is k (kindOf r) ≡ true → fits k (length r) ≡ true
-of-kind k r h = subst (λ (l : Kind). fits l (length r) ≡ true) (is-eq k (kindOf r) h) (kind-fits r)
+pub kind-length : (K : Kind) (w : ℕ) (r : Bytes) → fits K (length r) ≡ eqb (length r) w → is K (kindOf r) ≡ true → length r ≡ w
+kind-length K w r f h = eqb-true (length r) w (sym f ∙ ap (λ (k : Kind). fits k (length r)) (sym (is-eq K (kindOf r) h)) ∙ kind-fits r)
 
 -- a record is of its kind by its id, form number and length, whatever else stands in it
 pub kind-form : (r : Bytes) → part 8 6 r ≡ bytes "FRM   " → part 14 6 r ≡ bytes "4868  " → length r ≡ 384 → kindOf r ≡ Form

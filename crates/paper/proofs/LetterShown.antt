@@ -5,7 +5,7 @@ use mathlib.Core.List.{List, [], _∷_, _++_, map}
 use mathlib.Core.Path.{_≡_, refl, ap, _∙_}
 use native.Mathlib.Omega.{arith}
 use lib.ListN.{length, getD, set, length-append, List·getD-append}
-use lib.Seq.{sets, length-sets, getD-set-same, getD-set-other}
+use lib.Seq.{sets, getD-set-same, getD-set-other}
 use Rattle.paper.specs.declared.Layout.the-variants.{LKey}
 use Rattle.paper.specs.declared.Letter.{Letter}
 use Rattle.paper.specs.declared.Letter.the-variants.{A, R, D}
@@ -15,10 +15,7 @@ use Rattle.paper.specs.Layouts.{ackKey, entry, field}
 use Rattle.paper.specs.Judge.{Turn, letterOf, isA}
 use Rattle.paper.specs.File.{laid, recordOf, keyRecord, verdictByte, letterByte, setBy, setOf}
 use Rattle.paper.proofs.Laws.{take-next}
-
-pub length-laid : (r : Bytes) (at : ℕ) (t : Bytes) → length (laid r at t) ≡ length r
-unfolding laid
-length-laid r at t = length-sets r at t
+use Rattle.paper.proofs.RecordSizes.{length-laid, length-key}
 
 -- what is laid in behind a place leaves it
 below : (t r : Bytes) (at i : ℕ) → i < at → getD (sets r at t) i 0 ≡ getD r i 0
@@ -34,10 +31,6 @@ unfolding laid
 here r at v h = getD-set-same r at v 0 h
 
 module _ (ssn sequence : Bytes) (v : Verdict) (pin : ℕ) (date control : Bytes) (errors : ℕ) (literal : Bytes) where
-  key-long : length (keyRecord ssn sequence v pin date control errors literal) ≡ 120
-  unfolding keyRecord recordOf
-  key-long = simp length-laid
-
   key-letter : getD (keyRecord ssn sequence v pin date control errors literal) 53 0 ≡ verdictByte v
   unfolding keyRecord recordOf entry ackKey
   key-letter =
@@ -55,8 +48,9 @@ module _ (ssn sequence : Bytes) (v : Verdict) (pin : ℕ) (date control : Bytes)
   unfolding field entry ackKey
   field-letter more =
       let k : Bytes = keyRecord ssn sequence v pin date control errors literal in
-      take-next 0 53 (k ++ more) (omega (arith, length-append k more, key-long))
-      ∙ ap (λ (x : ℕ). x ∷ []) (List·getD-append k more 0 53 (omega (arith, key-long)) ∙ key-letter)
+      let n : length k ≡ 120 = length-key ssn sequence v pin date control errors literal in
+      take-next 0 53 (k ++ more) (omega (arith, length-append k more))
+      ∙ ap (λ (x : ℕ). x ∷ []) (List·getD-append k more 0 53 (omega arith) ∙ key-letter)
 
 pub letter-shown : (t : Turn) → field LKey 50 (setOf t) ≡ letterByte (letterOf t) ∷ []
 unfolding setOf setBy

@@ -4,7 +4,6 @@ use mathlib.Core.Bool.{Bool, true, false, cond}
 use mathlib.Core.List.{List, [], _∷_}
 use mathlib.Core.Path.{_≡_, refl, sym, ap, _∙_}
 use native.Mathlib.Omega.{arith}
-use borrow.Author.Tests.{eqb-true}
 use lib.ListN.{length, take, drop, getD, length-take, length-drop}
 use Rattle.paper.specs.declared.Kind.the-variants.{TranA, Form, Payment}
 use Rattle.paper.specs.declared.Layout.the-variants.{L4868, LPayment, LTrana}
@@ -13,26 +12,26 @@ use Rattle.paper.specs.Bytes.{Bytes, part}
 use Rattle.paper.specs.Layouts.{form4868, payment, trana, entry, field, through}
 use Rattle.paper.specs.Walk.{is, kindOf, isEnded, ordered, twelve}
 use Rattle.paper.proofs.Laws.{never}
-use Rattle.paper.proofs.KindLaws.{of-kind, broken-stays}
+use Rattle.paper.proofs.KindLaws.{kind-length, broken-stays}
 
 wide : (from width : ℕ) (r : Bytes) → from + width ≤ length r → length (part from width r) ≡ width
 wide from width r h = omega (arith, length-take width (drop from r), length-drop from r)
 
 pub ssn-wide : (r : Bytes) → is Form (kindOf r) ≡ true → length (field L4868 90 r) ≡ 9
 unfolding field entry form4868
-ssn-wide r e = wide 279 9 r (omega (arith, eqb-true (length r) 384 (of-kind Form r e)))
+ssn-wide r e = wide 279 9 r (omega (arith, kind-length Form 384 r refl e))
 
 pub spouse-wide : (r : Bytes) → is Form (kindOf r) ≡ true → length (field L4868 100 r) ≡ 9
 unfolding field entry form4868
-spouse-wide r e = wide 288 9 r (omega (arith, eqb-true (length r) 384 (of-kind Form r e)))
+spouse-wide r e = wide 288 9 r (omega (arith, kind-length Form 384 r refl e))
 
 pub state-wide : (r : Bytes) → is Form (kindOf r) ≡ true → length (field L4868 60 r) ≡ 2
 unfolding field entry form4868
-state-wide r e = wide 264 2 r (omega (arith, eqb-true (length r) 384 (of-kind Form r e)))
+state-wide r e = wide 264 2 r (omega (arith, kind-length Form 384 r refl e))
 
 pub routing-wide : (r : Bytes) → is Payment (kindOf r) ≡ true → length (field LPayment 30 r) ≡ 9
 unfolding field entry payment
-routing-wide r e = wide 60 9 r (omega (arith, eqb-true (length r) 123 (of-kind Payment r e)))
+routing-wide r e = wide 60 9 r (omega (arith, kind-length Payment 123 r refl e))
 
 first-by : (b : Bool) (rs : List Bytes) → isEnded (ordered (cond b Second Broken) rs) ≡ true → b ≡ true
 first-by true rs e = refl
@@ -40,7 +39,7 @@ first-by false rs e = absurd (never (sym (ap isEnded (broken-stays rs)) ∙ e))
 
 first-trana : (rs : List Bytes) → isEnded (ordered First rs) ≡ true → length (getD rs 0 []) ≡ 120
 first-trana [] e = absurd (never e)
-first-trana (r ∷ rs) e = eqb-true (length r) 120 (of-kind TranA r (first-by (is TranA (kindOf r)) rs e))
+first-trana (r ∷ rs) e = kind-length TranA 120 r refl (first-by (is TranA (kindOf r)) rs e)
 
 pub twelve-wide : (rs : List Bytes) → isEnded (ordered First rs) ≡ true → length (twelve (getD rs 0 [])) ≡ 12
 unfolding twelve through entry trana

@@ -1,4 +1,4 @@
--- The loop that lays a text into a record, texts laid one after the other, and the length of the records. Assumes nothing.
+-- The loop that lays a text into a record, and texts laid one after the other. Assumes nothing.
 use mathlib.Core.Path.{_≡_, refl, sym, ap, _∙_}
 use mathlib.Core.List.{List, [], _∷_}
 use Prim.Native.Nat.{ℕ, zero, suc, _+_, _<_, _≤_}
@@ -7,12 +7,7 @@ use lib.ListN.{length, getD, set, drop}
 use lib.Seq.{sets}
 use native.Mathlib.Omega.{arith}
 use Rattle.paper.proofs.Laws.{next, ended}
-use Rattle.paper.proofs.LetterShown.{length-laid}
-use Rattle.paper.specs.declared.Layout.{Layout}
-use Rattle.paper.specs.declared.Verdict.{Verdict}
-use Rattle.paper.specs.Bytes.{Bytes}
-use Rattle.paper.specs.Layouts.{entry}
-use Rattle.paper.specs.File.{laid, fields, recordOf, keyRecord, errorRecord, recapRecord}
+use Rattle.paper.specs.File.{laid}
 
 -- a byte past the last is not stored
 set-past : (r : List ℕ) (k x : ℕ) → length r ≤ k → set r k x ≡ r
@@ -45,27 +40,3 @@ pub onto : (q r e t : List ℕ) (k : ℕ) → q ≡ laid r k t → r ≡ e → q
 onto q r e t k v w = v ∙ ap (λ (s : List ℕ). laid s k t) w
 
 pub ruleset one-by-one = onto
-
--- EVERY RECORD HAS 120 BYTES
-
-length-fields : (l : Layout) (r : Bytes) (fs : List (ℕ × Bytes)) → length (fields l r fs) ≡ length r
-length-fields l r [] = refl
-length-fields l r (f ∷ fs) =
-    length-fields l (laid r (entry l (f .0) .start) (f .1)) fs ∙ length-laid r (entry l (f .0) .start) (f .1)
-
-length-recordOf : (l : Layout) (fs : List (ℕ × Bytes)) → length (recordOf l fs) ≡ 120
-unfolding recordOf
-length-recordOf l fs = simp (length-laid, length-fields)
-
-pub length-key : (ssn sequence : Bytes) (v : Verdict) (pin : ℕ) (date control : Bytes) (errors : ℕ) (literal : Bytes)
-    → length (keyRecord ssn sequence v pin date control errors literal) ≡ 120
-unfolding keyRecord
-length-key ssn sequence v pin date control errors literal = length-recordOf _ _
-
-pub length-error : (ssn : Bytes) (n : ℕ) (id type page occurrence : Bytes) (rule : ℕ) → length (errorRecord ssn n id type page occurrence rule) ≡ 120
-unfolding errorRecord
-length-error ssn n id type page occurrence rule = length-recordOf _ _
-
-pub length-recap : (recap digits12 : Bytes) (accepted all : ℕ) (name : Bytes) → length (recapRecord recap digits12 accepted all name) ≡ 120
-unfolding recapRecord
-length-recap recap digits12 accepted all name = length-recordOf _ _

@@ -14,7 +14,7 @@ use Rattle.paper.specs.declared.Layout.the-variants.{L4868}
 use Rattle.paper.specs.Bytes.{Bytes, digits, zeros}
 use Rattle.paper.specs.Layouts.{field}
 use Rattle.paper.specs.File.{orZeros, errorOf, errorsFrom, setBy}
-use Rattle.record.proofs.Laws.{length-key, length-error}
+use Rattle.paper.proofs.RecordSizes.{length-key, length-error}
 use Rattle.recordset.specs.Key.{keyOf}
 
 pub set-parts : (main doc : Bytes) (known : Bool) (date : Bytes) (l : Letter) (f : Facts) (found : List Found) (athFound : Bool)

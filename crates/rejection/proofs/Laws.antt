@@ -16,7 +16,7 @@ use Rattle.paper.specs.declared.Refusal.the-variants.{ShortOutput}
 use Rattle.paper.specs.declared.Verdict.the-variants.{Whole}
 use Rattle.paper.specs.Bytes.{Bytes, bytes, zeros, blanks}
 use Rattle.paper.specs.File.{laid, keyRecord, errorRecord, codeList, wholeErrors, rejection}
-use Rattle.record.proofs.Laws.{length-key, length-error}
+use Rattle.paper.proofs.RecordSizes.{length-key, length-error}
 use Rattle.sets.proofs.Laws.{laid-append}
 use Rattle.rejection.specs.Given.{codesBy, codeRow, Given}
 
