@@ -1,7 +1,7 @@
 -- The most that the record sets of a transmission can take. Assumes nothing.
-use mathlib.Core.Path.{_≡_, refl, sym, ap, _∙_, subst}
-use mathlib.Core.Bool.{Bool, true, false, cond, _||_}
-use mathlib.Core.List.{List, [], _∷_, _++_, map}
+use mathlib.Core.Path.{_≡_, refl, sym, ap}
+use mathlib.Core.Bool.{Bool, true, false, cond}
+use mathlib.Core.List.{List, [], _∷_, map}
 use Prim.Native.Nat.{ℕ, suc, _+_, _-_, _*_, _/_, _≤_, _<_, min}
 use native.Mathlib.Omega.{arith}
 use lib.ListN.{length, take, drop, length-append, length-take, length-drop, length-map}
@@ -11,12 +11,11 @@ use Rattle.paper.specs.Bytes.{Bytes, any, bit, count, those}
 use Rattle.paper.specs.Pack.{Lines}
 use Rattle.paper.specs.Walk.{Doc, countOf, starts, records, named, kindOf, is, opens, own, docsOf}
 use Rattle.paper.specs.Conditions.{View, view, rulesOf, holds}
-use Rattle.paper.specs.Judge.{Before, Turn, known, asked, mark, findsIn, findings, turn, turns, after, letterOf, sightOf}
-use Rattle.paper.specs.File.{onAuth, bytesOf, setOf}
+use Rattle.paper.specs.Judge.{Before, Finding, Turn, known, itemOf, ifKnown, asked, mark, findsIn, findsFrom, findings, turn, turns, after, letterOf, sightOf}
+use Rattle.paper.specs.File.{onAuth, setOf}
 use Rattle.walk.proofs.Records.{starts-bounds, records-end, records-more, records-none, record-length, along}
 use Rattle.paper.proofs.Laws.{never}
 use Rattle.paper.proofs.KindLaws.{kind-length}
-use Rattle.judge.proofs.Whole.{caseIf, asked-if}
 use Rattle.recordset.proofs.Laws.{length-setBy}
 use Rattle.ack.specs.Ties.{setsIn}
 
@@ -56,11 +55,11 @@ those-one p x = by (p x)
     by false = omega arith
 
 -- an unknown form has one finding at most
-finds-one : (k : Kind) (v : View) → opens k ≡ true → is Form k ≡ false → length (findsIn k 0 v) ≤ 1
+finds-one : (k : Kind) (v : View) → opens k ≡ true → is Form k ≡ false → length (findsIn k v) ≤ 1
 finds-one TranA v o f = absurd (never o)
 finds-one TranB v o f = absurd (never o)
 finds-one Form v o f = absurd (never (sym f))
-finds-one Unknown v o f = omega (arith, length-map (those (holds Unknown v) (rulesOf Unknown)) (mark Unknown 0), those-one (holds Unknown v) 44)
+finds-one Unknown v o f = omega (arith, length-map (those (holds Unknown v) (rulesOf Unknown)) (mark Unknown (v .own)), those-one (holds Unknown v) 44)
 finds-one Payment v o f = absurd (never o)
 finds-one Auth v o f = absurd (never o)
 finds-one Summary v o f = absurd (never o)
@@ -70,15 +69,17 @@ finds-one Stray v o f = absurd (never o)
 module _ (L : Lines) (date : Bytes) where
   set-length : (t : Turn) → length (setOf t) ≡ 120 + 120 * length (take 96 (findings t))
   unfolding setOf
-  set-length t = length-setBy (t .subject .doc .main) (bytesOf (t .subject .doc)) (known (t .subject .doc)) (t .date) (letterOf t) (sightOf t .whole) (take 96 (findings t)) (any onAuth (findings t))
+  set-length t = length-setBy (t .subject .doc .main) (known (t .subject .doc)) (t .date) (letterOf t) (sightOf t .whole) (take 96 (findings t)) (any onAuth (findings t))
 
   unknown-few : (b : Before) (d : Doc) → opens (kindOf (d .main)) ≡ true → known d ≡ false → length (findings (turn date b (asked L d))) ≤ 1
   unfolding findings
   unknown-few b d o f =
-      let t = turn date b (caseIf false L d) in
+      let t = turn date b (asked L d) in
+      let k = kindOf (d .main) in
       let v = view (sightOf t) (d .main) [] 0 0 in
-      subst (λ c. length (findings (turn date b c)) ≤ 1) (sym (asked-if false L d f))
-      (omega (arith, length-append (findsIn (kindOf (d .main)) 0 v) [], finds-one (kindOf (d .main)) v o f))
+      let rest : Bool → List Finding = λ (x : Bool). findsFrom (sightOf t) (0 + bit (is Payment k)) (0 + bit (is Auth k)) (map (itemOf (ifKnown (known d) L)) (cond x (d .others) [])) in
+      let none : length (rest (known d)) ≡ 0 = ap (λ (x : Bool). length (rest x)) f in
+      omega (arith, length-append (findsIn k v) (rest (known d)), finds-one k v o f)
 
   set-most : (b : Before) (d : Doc) → opens (kindOf (d .main)) ≡ true → length (setOf (turn date b (asked L d))) ≤ 240 + 11400 * bit (known d)
   set-most b d o = by (known d) refl

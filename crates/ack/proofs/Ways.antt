@@ -16,9 +16,9 @@ use Rattle.paper.specs.declared.Refusal.{Refusal}
 use Rattle.paper.specs.declared.Refusal.the-variants.{LongTransmission, BadPack, BadDateOrName}
 use Rattle.paper.specs.Bytes.{Bytes, bytes, zeros, same, empty}
 use Rattle.paper.specs.Layouts.{trana, entry, through}
-use Rattle.paper.specs.Pack.{Lines, Blocks, sentBefore, blocksOf, linesOf, wellFormed}
-use Rattle.paper.specs.Walk.{records, sound, twelve, twelveAgain, Doc, Parsed, parsedOf, parsedIf, parse, docsOf}
-use Rattle.paper.specs.Judge.{Case, Turn, turns, asked, start}
+use Rattle.paper.specs.Pack.{Lines, Blocks, sentBefore, blocksOf, wellFormed}
+use Rattle.paper.specs.Walk.{records, sound, twelve, twelveAgain, Doc, Parsed, parsedOf, parsedIf, parse}
+use Rattle.paper.specs.Judge.{Turn, turns, asked, start}
 use Rattle.paper.specs.File.{rejection, judged, outcomeBy, turnsOf, outcomeOf, outcome, fileFrom, fileOf}
 use Rattle.paper.specs.Fields.{validDate}
 use Rattle.paper.specs.Answer.{fileName, prescribed, roomFor, answer, refusalNumber, coded, leftBy}

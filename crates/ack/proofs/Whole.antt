@@ -1,23 +1,23 @@
 -- The whole file. Assumes nothing.
-use mathlib.Core.Path.{_≡_, refl, sym, ap, _∙_, subst}
-use mathlib.Core.Bool.{true}
-use mathlib.Core.List.{List, [], _∷_, _++_, map, append-assoc}
-use Prim.Native.Nat.{ℕ, _+_, _-_, _*_, _/_, _≤_, _<_, min}
+use mathlib.Core.Path.{_≡_, refl, sym, ap, _∙_}
+use mathlib.Core.Bool.{Bool, true, cond}
+use mathlib.Core.List.{List, [], _∷_, _++_, map}
+use Prim.Native.Nat.{ℕ, _+_, _-_, _*_, _/_, _≤_, min}
 use native.Mathlib.Omega.{arith}
 use lib.ListN.{length, take, drop, length-append, length-take, length-map}
 use lib.Dec.{leb}
 use lib.Seq.{take-add}
 use borrow.Author.Tests.{le-leb}
 use Rattle.paper.specs.declared.Layout.the-variants.{LTrana}
-use Rattle.paper.specs.Bytes.{Bytes, count, part}
+use Rattle.paper.specs.Bytes.{Bytes, count, laid}
 use Rattle.paper.specs.Layouts.{through}
 use Rattle.paper.specs.Pack.{Lines}
 use Rattle.paper.specs.Walk.{records, twelve, docsOf}
 use Rattle.paper.specs.Judge.{Before, Case, Turn, turn, turns, after, asked, start, known}
-use Rattle.paper.specs.File.{laid, recapRecord, acceptedIn}
-use Rattle.paper.proofs.RecordSizes.{length-recap}
-use Rattle.sets.proofs.Laws.{laid-append}
-use Rattle.walk.specs.Parts.{Parts}
+use Rattle.paper.specs.File.{recapRecord, acceptedIn}
+use Rattle.paper.proofs.RecordSizes.{length-laid, length-recap}
+use Rattle.text.proofs.Laying.{laid-append}
+use Rattle.record.specs.Parts.{placed}
 use Rattle.walk.proofs.Laws.{tail}
 use Rattle.walk.proofs.Docs.{docs-few}
 use Rattle.ack.specs.declared.Done.{Done}
@@ -74,13 +74,17 @@ module _ (L : Lines) (date name t : Bytes) (n : ℕ) (b : Begins t n) where
       ap length as-written ∙ length-append (take 240 t ++ setsIn ts) recap
       ∙ omega (arith, length-append (take 240 t) (setsIn ts), head-size, length-recap (drop (length t - 120) t) (twelve (take 120 t)) (acceptedIn ts) n name)
 
-  pub file-laid : (out o1 o2 o3 q digits : Bytes) (d : Done) → o1 ≡ laid out 0 (take 240 t) → Written ts 240 o1 o2 d → digits ≡ through LTrana 60 80 (take 120 t)
-      → q ≡ recapRecord (take (length t - (length t - 120)) (drop (length t - 120) t)) digits (d .accepted) n name → o3 ≡ laid o2 (d .to) q → o3 ≡ laid out 0 (judgedFile L date name t)
-  unfolding twelve
-  file-laid out o1 o2 o3 q digits d e1 w ed eq e3 =
-      let q' : q ≡ recap = eq ∙ (λ i. recapRecord (tail t (length t - 120) i) (ed i) (w .counts i) n name) in
+  pub file-laid : (out o1 o2 o3 digits : Bytes) (d : Done) → length (judgedFile L date name t) ≤ length out → o1 ≡ laid out 0 (take 240 t) → Written ts 240 o1 o2 d
+      → digits ≡ through LTrana 60 80 (take 120 t)
+      → o3 ≡ placed o2 (d .to) (recapRecord (take (length t - (length t - 120)) (drop (length t - 120) t)) digits (d .accepted) n name) → o3 ≡ laid out 0 (judgedFile L date name t)
+  unfolding twelve placed
+  file-laid out o1 o2 o3 digits d f e1 w ed e3 =
+      let q = recapRecord (take (length t - (length t - 120)) (drop (length t - 120) t)) digits (d .accepted) n name in
+      let q' : q ≡ recap = λ i. recapRecord (tail t (length t - 120) i) (ed i) (w .counts i) n name in
       let head : 240 ≡ 0 + length (take 240 t) = omega (arith, head-size) in
       let both : o2 ≡ laid out 0 (take 240 t ++ setsIn ts) =
       w .holds ∙ (λ i. laid (e1 i) (head i) (setsIn ts)) ∙ laid-append (take 240 t) (setsIn ts) out 0 in
       let at : d .to ≡ 0 + length (take 240 t ++ setsIn ts) = omega (arith, w .ends, length-append (take 240 t) (setsIn ts), head-size) in
-      e3 ∙ (λ i. laid (both i) (at i) (q' i)) ∙ laid-append (take 240 t ++ setsIn ts) recap out 0 ∙ ap (laid out 0) (sym as-written)
+      let fits : d .to + 120 ≤ length o2 = omega (arith, file-size, w .ends, ap length both, length-laid out 0 (take 240 t ++ setsIn ts)) in
+      e3 ∙ ap (λ (b : Bool). cond b (laid o2 (d .to) q) o2) (le-leb (d .to + 120) (length o2) fits)
+      ∙ (λ i. laid (both i) (at i) (q' i)) ∙ laid-append (take 240 t ++ setsIn ts) recap out 0 ∙ ap (laid out 0) (sym as-written)

@@ -6,11 +6,11 @@ use mathlib.Core.Path.{_≡_}
 use lib.Dec.{eqb}
 use lib.ListN.{length, drop}
 use Rattle.paper.specs.declared.Codes.the-variants.{C0822, C0840, C0822And0840}
-use Rattle.paper.specs.Bytes.{Bytes, same, joined}
+use Rattle.paper.specs.Bytes.{Bytes, same, joined, laid}
 use Rattle.paper.specs.Pack.{Lines, Blocks}
 use Rattle.paper.specs.Walk.{records, twelveAgain, parsedOf, docsOf}
 use Rattle.paper.specs.Judge.{Turn, turn, turns, asked}
-use Rattle.paper.specs.File.{laid, setOf, acceptedIn, judged, turnsOf, outcome, fileFrom}
+use Rattle.paper.specs.File.{setOf, acceptedIn, judged, turnsOf, outcome, fileFrom}
 use Rattle.lookup.specs.Find.{lineIn, sought}
 use Rattle.walk.specs.declared.Outer.the-variants.{Sound}
 use Rattle.walk.specs.Shape.{shapeOf}
@@ -18,7 +18,6 @@ use Rattle.walk.specs.Parts.{docHere, Stands}
 use Rattle.judge.specs.declared.Past.{Past}
 use Rattle.judge.specs.Seen.{seenBy}
 use Rattle.ack.specs.declared.Done.{Done}
-use Rattle.ack.specs.declared.Stand.{Stand}
 use Rattle.ack.specs.declared.Route.{Route}
 use Rattle.ack.specs.declared.Route.the-variants.{Reject, Judge}
 
@@ -59,24 +58,20 @@ routeBy false false = Judge
 unfoldable pub routeOf : Bytes → Bytes → Bytes → Route
 routeOf t digits sent = routeBy (not (eqb (length (lineIn 12 digits sent)) 0)) (not (same (twelveAgain (drop (length t - 120) t)) digits))
 
--- where the next document starts, and what it sees of the earlier ones
-abbrev pub standAt : ℕ → Past → Stand
-standAt at p = record { at = at; past = p }
-
 -- the first document from a place on, in its turn
-abbrev pub here : Lines → Bytes → Bytes → ℕ → Past → Turn
-here L date t at p = turn date (seenBy t p) (asked L (docHere (drop at t)))
+abbrev pub here : Lines → Bytes → Bytes → ℕ → Past → List ℕ → Turn
+here L date t at p row = turn date (seenBy p row) (asked L (docHere (drop at t)))
 
 -- the turns from a place on
-unfoldable pub ahead : Lines → Bytes → Bytes → ℕ → Past → List Turn
-ahead L date t at p = turns date (seenBy t p) (map (asked L) (docsOf (records (drop at t))))
+unfoldable pub ahead : Lines → Bytes → Bytes → ℕ → Past → List ℕ → List Turn
+ahead L date t at p row = turns date (seenBy p row) (map (asked L) (docsOf (records (drop at t))))
 
--- at a document's start, or at RECAP, with the numbers of the accepted documents before it; such a document has 698 bytes or more
-pub record Going (t : Bytes) (at : ℕ) (p : Past) : Type 0 where
+-- at a document's start, or at RECAP, with the numbers of the accepted documents before it; such a document has 86 bytes or more
+pub record Going (t : Bytes) (at : ℕ) (p : Past) (row : List ℕ) : Type 0 where
   pub short : length t ≤ 65536
   pub stands : Stands t at
-  pub space : p .n * 698 ≤ at
-  pub whole : length (p .list) ≡ 94
+  pub space : p .n * 86 ≤ at
+  pub whole : length row ≡ 762
 
 -- the record sets of the turns written into out from a place on, and how many are accepted
 pub record Written (ts : List Turn) (from : ℕ) (out out' : Bytes) (d : Done) : Type 0 where

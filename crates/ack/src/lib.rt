@@ -1,5 +1,4 @@
 // The acknowledgment file of a transmission, and the entry points.
-use judge::Past;
 use pack::Places;
 use pack::Shape;
 use paper::Answer;
@@ -13,21 +12,13 @@ ghost use mathlib.Core.List.{_++_};
 ghost use Prim.Native.Nat.{_+_, _-_, _*_, _/_, _≤_, min};
 ghost use lib.Dec.{leb};
 ghost use lib.ListN.{length};
-ghost use Rattle.paper.specs.Bytes.{bytes, bit, every, within};
+ghost use Rattle.paper.specs.Bytes.{bytes, bit, every, within, laid};
 ghost use Rattle.paper.specs.Judge.{isA};
-ghost use Rattle.paper.specs.File.{laid};
 ghost use Rattle.paper.specs.Answer.{fileName, prescribed, answer, refusalNumber, numberOf, lengthOf, coded, leftBy};
 ghost use Rattle.pack.specs.Shape.{shapeOf};
 ghost use Rattle.judge.specs.Judged.{searched};
-ghost use Rattle.judge.specs.Seen.{nextPast};
 ghost use Rattle.rejection.specs.Given.{Given};
-ghost use Rattle.ack.specs.Ties.{blocksBy, Begins, turnsIn, setsIn, judgedFile, fileBy, routeBy, routeOf, standAt, Written};
-
-// Where the next document starts, and what it sees of the earlier ones.
-struct Stand {
-    at: usize,
-    past: Past,
-}
+ghost use Rattle.ack.specs.Ties.{blocksBy, Begins, turnsIn, setsIn, judgedFile, fileBy, routeBy, routeOf, Written};
 
 // Where the record sets end, and how many documents are accepted.
 struct Done {
@@ -47,7 +38,7 @@ fn sequence_of(twelve: &[u8]) -> [u8; 16]
     ensures { λ r. ⌜ r ≡ now (twelve .entry) ++ bytes "0000" ⌝ }
 {
     let mut s = [b'0'; 16];
-    sets::put(&mut s, 0, twelve);
+    text::lay(&mut s, 0, twelve);
     s
 }
 
@@ -63,14 +54,6 @@ fn one_if(letter: Letter) -> usize
     }
 }
 
-// On from a document to the next one, which starts at a place.
-fn move_on(t: &[u8], from: usize, letter: Letter, earlier: Past, at: usize) -> Stand
-    ensures { λ s. ⌜ s ≡ standAt at (nextPast (now (t .entry)) from letter earlier) ⌝ }
-{
-    let past = judge::pass(t, from, earlier, letter);
-    Stand { at, past }
-}
-
 // The length of the record sets of all documents.
 fn need(
     t: &[u8],
@@ -84,13 +67,14 @@ fn need(
     requires { ⌜ Begins (now t) n ⌝ }
     ensures { λ r. ⌜ (r ≡ length (setsIn (turnsIn (searched (now (taxpayers .entry)) (now (banks .entry)) (now (filed .entry)) (now (states .entry))) (now (date .entry)) (now (t .entry))))) × (r ≤ 762839040) ⌝ }
 {
+    let mut row = [0u32; 762];
     let mut list = [[0usize; 3]; 96];
     let mut past = judge::no_past();
     let mut at: usize = 240;
     let mut size: usize = 0;
     let mut i: usize = 0;
     while i < n {
-        let j = judge::judge(
+        let judged = judge::judge(
             t,
             at,
             taxpayers,
@@ -99,14 +83,13 @@ fn need(
             states,
             date,
             past,
+            &mut row,
             &mut list,
         );
-        let letter = j.letter;
-        let end = at + j.facts.size;
+        let j = judged.judgment;
         size += 120 + 120 * j.found.kept;
-        let next = move_on(t, at, letter, past, end);
-        past = next.past;
-        at = next.at;
+        past = judged.past;
+        at += j.size;
         i += 1;
     }
     size
@@ -162,6 +145,7 @@ fn write_sets(
     requires { ⌜ Begins (now t) n × (240 + length (setsIn (turnsIn (searched (now taxpayers) (now banks) (now filed) (now states)) (now date) (now t))) ≤ length (now out)) ⌝ }
     ensures { λ d. ⌜ Written (turnsIn (searched (now (taxpayers .entry)) (now (banks .entry)) (now (filed .entry)) (now (states .entry))) (now (date .entry)) (now (t .entry))) 240 (now (out .entry)) (now (out .exit)) d ⌝ }
 {
+    let mut row = [0u32; 762];
     let mut list = [[0usize; 3]; 96];
     let mut past = judge::no_past();
     let mut at: usize = 240;
@@ -169,7 +153,7 @@ fn write_sets(
     let mut accepted: usize = 0;
     let mut i: usize = 0;
     while i < n {
-        let j = judge::judge(
+        let judged = judge::judge(
             t,
             at,
             taxpayers,
@@ -178,16 +162,17 @@ fn write_sets(
             states,
             date,
             past,
+            &mut row,
             &mut list,
         );
+        let j = judged.judgment;
         let letter = j.letter;
-        let end = at + j.facts.size;
-        sets::put_set(&mut out[to..], &t[at..end], date, j, &list);
+        let end = at + j.size;
+        sets::put_set(&mut out[to..], &t[at..end], t, date, j, &list);
         to += 120 + 120 * j.found.kept;
         accepted += one_if(letter);
-        let next = move_on(t, at, letter, past, end);
-        past = next.past;
-        at = next.at;
+        past = judged.past;
+        at = end;
         i += 1;
     }
     Done { to, accepted }
@@ -209,13 +194,20 @@ fn put_file(
     ensures { λ r. ⌜ r ≡ length (judgedFile (searched (now (taxpayers .entry)) (now (banks .entry)) (now (filed .entry)) (now (states .entry))) (now (date .entry)) (now (name .entry)) (now (t .entry))) ⌝ }
     ensures { λ _. ⌜ now (out .exit) ≡ laid (now (out .entry)) 0 (judgedFile (searched (now (taxpayers .entry)) (now (banks .entry)) (now (filed .entry)) (now (states .entry))) (now (date .entry)) (now (name .entry)) (now (t .entry))) ⌝ }
 {
-    sets::put(out, 0, &t[0..240]);
+    text::lay(out, 0, &t[0..240]);
     let done = write_sets(t, n, taxpayers, banks, filed, states, date, out);
     let to = done.to;
     let from = t.len() - 120;
     let twelve = layout::through(Layout::LTrana, 60, 80, &t[0..120]);
-    let recap = record::recap_record(&t[from..], twelve, done.accepted as u32, n as u32, name);
-    sets::put(out, to, &recap);
+    record::put_recap(
+        out,
+        to,
+        &t[from..],
+        twelve,
+        done.accepted as u32,
+        n as u32,
+        name,
+    );
     to + 120
 }
 

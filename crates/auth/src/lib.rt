@@ -2,10 +2,27 @@
 use paper::Facts;
 use paper::Layout;
 ghost use mathlib.Core.Path.{_≡_};
+ghost use mathlib.Core.Bool.{_&&_, cond};
+ghost use mathlib.Core.List.{[], _∷_};
+ghost use Prim.Native.Nat.{ℕ, _/_, _%_};
+ghost use lib.Dec.{eqb};
+ghost use lib.ListN.{length, getD};
 ghost use Rattle.paper.specs.declared.Layout.the-variants.{L4868, LAuth};
-ghost use Rattle.paper.specs.Bytes.{bytes};
 ghost use Rattle.paper.specs.Layouts.{field};
-ghost use Rattle.paper.specs.Conditions.{wrongAuth, typed, selfSelect, wrongJurat, auth0010, spouseOnly, selfOnly, missing, missingSpouse, missingP, wrongIncome, authHolds};
+ghost use Rattle.paper.specs.Conditions.{wrongAuth, typed, authHolds, authRules};
+ghost use Rattle.words.specs.Sets.{bitOn, bitsOn, bitsBy};
+ghost use Rattle.auth.specs.Asked.{askedOf, fieldHolds};
+
+// What a document asks of its authentication. The codes that a blank field has: 0670 (s) and 0681 (o) in a field of the taxpayer, 0671
+// (spouse_s) and 0682 (spouse_o) in one of the spouse, 0697 and an I in 0075 (p); and an E in 0075 and the prior income (select).
+struct Asked {
+    s: bool,
+    spouse_s: bool,
+    o: bool,
+    spouse_o: bool,
+    select: bool,
+    p: bool,
+}
 
 fn field_of(n: u32, own: &[u8]) -> &[u8]
     ensures { λ p. ⌜ now p ≡ field LAuth n (now (own .entry)) ⌝ }
@@ -35,142 +52,198 @@ fn is_typed(kind: &[u8], own: &[u8]) -> bool
     text::is_same(field_of(8, own), kind)
 }
 
-fn self_select(own: &[u8]) -> bool
-    ensures { λ r. ⌜ r ≡ selfSelect (now (own .entry)) ⌝ }
+fn asked_of(form: &[u8], own: &[u8], whole: Facts) -> Asked
+    ensures { λ r. ⌜ r ≡ askedOf (now (form .entry)) (now (own .entry)) whole ⌝ }
 {
-    is_typed(b"S", own) | is_typed(b"O", own)
-}
-
-// 0326: not E where 0008 is S or O, not I where it is P.
-fn wrong_jurat(own: &[u8]) -> bool
-    ensures { λ r. ⌜ r ≡ wrongJurat (now (own .entry)) ⌝ }
-{
-    self_select(own) & !text::is_same(field_of(75, own), b"E")
-        | is_typed(b"P", own) & !text::is_same(field_of(75, own), b"I")
-}
-
-// 0010, by field.
-fn holds_0010(n: u32, own: &[u8]) -> bool
-    ensures { λ r. ⌜ r ≡ auth0010 n (now (own .entry)) ⌝ }
-{
-    match n {
-        8 => !words::one_of(b"PSO", field_of(8, own)),
-        10 => words::not_date(field_of(10, own)),
-        20 => words::not_digits(field_of(20, own)),
-        35 => words::not_pin(field_of(35, own)),
-        40 => words::not_date(field_of(40, own)),
-        50 => words::not_digits(field_of(50, own)),
-        65 => words::not_pin(field_of(65, own)),
-        70 => words::not_date(field_of(70, own)),
-        80 => !words::one_of(b"1234 ", field_of(80, own)),
-        _ => false,
+    let s = is_typed(b"S", own);
+    let o = is_typed(b"O", own);
+    let pays = 0 < whole.pays;
+    let paired = !text::blank(of_form(100, form));
+    let own_due = text::significant(of_form(170, form));
+    let spouse_due = text::significant(of_form(180, form));
+    // "Spouse only: 0100 present, all payments 0709S, 0180 significant, 0170 not." "Self only: all 0709P, 0170 significant, 0180 not."
+    let spouse_only = paired & whole.spouse & spouse_due & !own_due;
+    let self_only = whole.own & own_due & !spouse_due;
+    Asked {
+        s: s & pays & !spouse_only,
+        spouse_s: s & pays & paired & !self_only,
+        o: o & pays & !spouse_only,
+        spouse_o: o & pays & paired & !self_only,
+        select: s | o,
+        p: is_typed(b"P", own),
     }
 }
 
-// Spouse only: 0100 present, all payments 0709S, 0180 significant, 0170 not.
-fn spouse_only(form: &[u8], whole: Facts) -> bool
-    ensures { λ r. ⌜ r ≡ spouseOnly (now (form .entry)) whole ⌝ }
+// The rules on the head, before later ones.
+fn of_head(form: &[u8], own: &[u8], whole: Facts, before: usize, later: u64) -> u64
+    ensures { λ r. ⌜ r ≡ bitsOn (λ (rule : ℕ). authHolds (rule / 10000) (rule % 10000) (now (form .entry)) (now (own .entry)) [] [] whole before) (30 ∷ 44 ∷ 45 ∷ 30004 ∷ 80010 ∷ []) later ⌝ }
 {
-    !text::blank(of_form(100, form))
-        & whole.spouse
-        & text::significant(of_form(180, form))
-        & !text::significant(of_form(170, form))
+    let set = words::and_rule(!words::one_of(b"PSO", field_of(8, own)), later);
+    let set = words::and_rule(
+        words::other_number(field_of(3, own), of_form(90, form)),
+        set,
+    );
+    let set = words::and_rule(wrong_auth(own, before), set);
+    let set = words::and_rule(words::wrong_page(field_of(2, own)), set);
+    words::and_rule(whole.pays == 0, set)
 }
 
-// Self only: all 0709P, 0170 significant, 0180 not.
-fn self_only(form: &[u8], whole: Facts) -> bool
-    ensures { λ r. ⌜ r ≡ selfOnly (now (form .entry)) whole ⌝ }
+// The rules on the taxpayer's fields, 0010 to 0035, before later ones.
+fn of_payer(own: &[u8], line: &[u8], asked: Asked, later: u64) -> u64
+    ensures { λ r. ⌜ r ≡ bitsOn (λ (rule : ℕ). fieldHolds asked (now (own .entry)) (now (line .entry)) (rule / 10000) (rule % 10000)) (100010 ∷ 100670 ∷ 100681 ∷ 200010 ∷ 200670 ∷ 200679 ∷ 200681 ∷ 350010 ∷ 350670 ∷ 350681 ∷ 350697 ∷ []) later ⌝ }
 {
-    whole.own & text::significant(of_form(170, form)) & !text::significant(of_form(180, form))
+    let pin = field_of(35, own);
+    let is_blank = text::blank(pin);
+    let set = words::and_rule(asked.p & is_blank, later);
+    let set = words::and_rule(asked.o & is_blank, set);
+    let set = words::and_rule(asked.s & is_blank, set);
+    let set = words::and_rule(words::not_pin(pin), set);
+    let income = field_of(20, own);
+    let is_blank = text::blank(income);
+    let set = words::and_rule(asked.o & is_blank, set);
+    let set = words::and_rule(
+        asked.select & !is_blank & !text::is_same(text::piece(line, 21, 12), income),
+        set,
+    );
+    let set = words::and_rule(asked.s & is_blank, set);
+    let set = words::and_rule(words::not_digits(income), set);
+    let birth = field_of(10, own);
+    let is_blank = text::blank(birth);
+    let set = words::and_rule(asked.o & is_blank, set);
+    let set = words::and_rule(asked.s & is_blank, set);
+    words::and_rule(words::not_date(birth), set)
 }
 
-// 0670 (S), 0681 (O): with a payment, blank, unless spouse only.
-fn is_missing(kind: &[u8], n: u32, own: &[u8], form: &[u8], whole: Facts) -> bool
-    ensures { λ r. ⌜ r ≡ missing (now (kind .entry)) n (now (own .entry)) (now (form .entry)) whole ⌝ }
+// The rules on the spouse's fields, 0040 to 0065, before later ones.
+fn of_spouse(own: &[u8], line: &[u8], asked: Asked, later: u64) -> u64
+    ensures { λ r. ⌜ r ≡ bitsOn (λ (rule : ℕ). fieldHolds asked (now (own .entry)) (now (line .entry)) (rule / 10000) (rule % 10000)) (400010 ∷ 400671 ∷ 400682 ∷ 500010 ∷ 500671 ∷ 500680 ∷ 500682 ∷ 650010 ∷ 650671 ∷ 650682 ∷ []) later ⌝ }
 {
-    if whole.pays == 0 {
-        return false;
-    }
-    if !is_typed(kind, own) {
-        return false;
-    }
-    if !text::blank(field_of(n, own)) {
-        return false;
-    }
-    !spouse_only(form, whole)
+    let pin = field_of(65, own);
+    let is_blank = text::blank(pin);
+    let set = words::and_rule(asked.spouse_o & is_blank, later);
+    let set = words::and_rule(asked.spouse_s & is_blank, set);
+    let set = words::and_rule(words::not_pin(pin), set);
+    let income = field_of(50, own);
+    let is_blank = text::blank(income);
+    let set = words::and_rule(asked.spouse_o & is_blank, set);
+    let set = words::and_rule(
+        asked.select & !is_blank & !text::is_same(text::piece(line, 21, 12), income),
+        set,
+    );
+    let set = words::and_rule(asked.spouse_s & is_blank, set);
+    let set = words::and_rule(words::not_digits(income), set);
+    let birth = field_of(40, own);
+    let is_blank = text::blank(birth);
+    let set = words::and_rule(asked.spouse_o & is_blank, set);
+    let set = words::and_rule(asked.spouse_s & is_blank, set);
+    words::and_rule(words::not_date(birth), set)
 }
 
-// 0671 (S), 0682 (O): with a payment, 0100 present, blank, unless self only.
-fn missing_spouse(kind: &[u8], n: u32, own: &[u8], form: &[u8], whole: Facts) -> bool
-    ensures { λ r. ⌜ r ≡ missingSpouse (now (kind .entry)) n (now (own .entry)) (now (form .entry)) whole ⌝ }
+// 0670, 0671, 0681 and 0682 of a field of both, before later ones.
+fn and_missing(is_blank: bool, asked: Asked, later: u64) -> u64
+    ensures { λ r. ⌜ r ≡ bitOn (asked .s && «is_blank») (bitOn (asked .«spouse_s» && «is_blank») (bitOn (asked .o && «is_blank») (bitOn (asked .«spouse_o» && «is_blank») later))) ⌝ }
 {
-    if whole.pays == 0 {
-        return false;
-    }
-    if !is_typed(kind, own) {
-        return false;
-    }
-    if text::blank(of_form(100, form)) {
-        return false;
-    }
-    if !text::blank(field_of(n, own)) {
-        return false;
-    }
-    !self_only(form, whole)
+    let set = words::and_rule(asked.spouse_o & is_blank, later);
+    let set = words::and_rule(asked.o & is_blank, set);
+    let set = words::and_rule(asked.spouse_s & is_blank, set);
+    words::and_rule(asked.s & is_blank, set)
 }
 
-// 0697: type P, blank.
-fn missing_p(n: u32, own: &[u8]) -> bool
-    ensures { λ r. ⌜ r ≡ missingP n (now (own .entry)) ⌝ }
+// The rules on the fields of both, 0070 to 0080, before later ones.
+fn of_both(own: &[u8], asked: Asked, later: u64) -> u64
+    ensures { λ r. ⌜ r ≡ bitsOn (λ (rule : ℕ). fieldHolds asked (now (own .entry)) [] (rule / 10000) (rule % 10000)) (700010 ∷ 700670 ∷ 700671 ∷ 700681 ∷ 700682 ∷ 700697 ∷ 750326 ∷ 750670 ∷ 750671 ∷ 750681 ∷ 750682 ∷ 750697 ∷ 800010 ∷ 800670 ∷ 800671 ∷ 800681 ∷ 800682 ∷ []) later ⌝ }
 {
-    if !is_typed(b"P", own) {
-        return false;
-    }
-    text::blank(field_of(n, own))
+    let code = field_of(80, own);
+    let set = and_missing(text::blank(code), asked, later);
+    let set = words::and_rule(!words::one_of(b"1234 ", code), set);
+    let jurat = field_of(75, own);
+    let is_blank = text::blank(jurat);
+    let set = words::and_rule(asked.p & is_blank, set);
+    let set = and_missing(is_blank, asked, set);
+    let set = words::and_rule(
+        asked.select & !text::is_same(jurat, b"E") | asked.p & !text::is_same(jurat, b"I"),
+        set,
+    );
+    let signed = field_of(70, own);
+    let is_blank = text::blank(signed);
+    let set = words::and_rule(asked.p & is_blank, set);
+    let set = and_missing(is_blank, asked, set);
+    words::and_rule(words::not_date(signed), set)
 }
 
-// 0679, 0680: types S and O, present and not the prior income of the line.
-fn wrong_income(n: u32, own: &[u8], line: &[u8]) -> bool
-    ensures { λ r. ⌜ r ≡ wrongIncome n (now (own .entry)) (now (line .entry)) ⌝ }
-{
-    if !self_select(own) {
-        return false;
-    }
-    let f = field_of(n, own);
-    if text::blank(f) {
-        return false;
-    }
-    !text::is_same(text::piece(line, 21, 12), f)
-}
-
-// Whether the rule of this field and code is broken, after so many authentications of the document; payer and spouse are the taxpayer
-// lines of 0090 and 0100.
-pub fn holds(
-    n: u32,
-    code: u32,
+// The set of the rules that an authentication breaks, after so many of the document, where both records have their length; payer and spouse
+// are the taxpayer lines of 0090 and 0100.
+pub fn broken(
     form: &[u8],
     own: &[u8],
     payer: &[u8],
     spouse: &[u8],
     whole: Facts,
     before: usize,
-) -> bool
-    ensures { λ r. ⌜ r ≡ authHolds n code (now (form .entry)) (now (own .entry)) (now (payer .entry)) (now (spouse .entry)) whole before ⌝ }
+) -> u64
+    ensures { λ r. ⌜ r ≡ cond (eqb (length (now (form .entry))) 384 && eqb (length (now (own .entry))) 340) (bitsBy (λ (rule : ℕ). authHolds (rule / 10000) (rule % 10000) (now (form .entry)) (now (own .entry)) (now (payer .entry)) (now (spouse .entry)) whole before) authRules) 0 ⌝ }
 {
-    match code {
-        4 => words::other_number(field_of(3, own), of_form(90, form)),
-        10 => holds_0010(n, own),
-        30 => whole.pays == 0,
-        44 => words::wrong_page(field_of(2, own)),
-        45 => wrong_auth(own, before),
-        326 => wrong_jurat(own),
-        670 => is_missing(b"S", n, own, form, whole),
-        671 => missing_spouse(b"S", n, own, form, whole),
-        679 => wrong_income(20, own, payer),
-        680 => wrong_income(50, own, spouse),
-        681 => is_missing(b"O", n, own, form, whole),
-        682 => missing_spouse(b"O", n, own, form, whole),
-        697 => missing_p(n, own),
-        _ => false,
+    if form.len() != 384 {
+        return 0;
+    }
+    if own.len() != 340 {
+        return 0;
+    }
+    let asked = asked_of(form, own, whole);
+    let set = of_both(own, asked, 0);
+    let set = of_spouse(own, spouse, asked, set);
+    let set = of_payer(own, payer, asked, set);
+    of_head(form, own, whole, before, set)
+}
+
+// The rule at a place of the table.
+pub fn rule_at(i: usize) -> u32
+    ensures { λ r. ⌜ r ≡ getD authRules i 0 ⌝ }
+{
+    match i {
+        0 => 30,
+        1 => 44,
+        2 => 45,
+        3 => 30004,
+        4 => 80010,
+        5 => 100010,
+        6 => 100670,
+        7 => 100681,
+        8 => 200010,
+        9 => 200670,
+        10 => 200679,
+        11 => 200681,
+        12 => 350010,
+        13 => 350670,
+        14 => 350681,
+        15 => 350697,
+        16 => 400010,
+        17 => 400671,
+        18 => 400682,
+        19 => 500010,
+        20 => 500671,
+        21 => 500680,
+        22 => 500682,
+        23 => 650010,
+        24 => 650671,
+        25 => 650682,
+        26 => 700010,
+        27 => 700670,
+        28 => 700671,
+        29 => 700681,
+        30 => 700682,
+        31 => 700697,
+        32 => 750326,
+        33 => 750670,
+        34 => 750671,
+        35 => 750681,
+        36 => 750682,
+        37 => 750697,
+        38 => 800010,
+        39 => 800670,
+        40 => 800671,
+        41 => 800681,
+        42 => 800682,
+        _ => 0,
     }
 }

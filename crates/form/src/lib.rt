@@ -2,11 +2,20 @@
 use paper::Facts;
 use paper::Layout;
 ghost use mathlib.Core.Path.{_≡_};
+ghost use mathlib.Core.Bool.{not, cond, _&&_};
+ghost use mathlib.Core.List.{[], _∷_};
+ghost use Prim.Native.Nat.{_^_, _≤_};
+ghost use lib.Dec.{eqb};
+ghost use lib.ListN.{length, getD};
 ghost use Rattle.paper.specs.declared.Layout.the-variants.{L4868};
 ghost use Rattle.paper.specs.Bytes.{within, empty};
+ghost use Rattle.paper.specs.Fields.{street, city};
 ghost use Rattle.paper.specs.Layouts.{field};
 ghost use Rattle.paper.specs.Pack.{linesIn};
-ghost use Rattle.paper.specs.Conditions.{sight, formFillers, foreign, addressed, wrongStreet, wrongCity, wrongState, badZip, wrongZip, wrongForeign, noSpouse, form0010, formHolds};
+ghost use Rattle.paper.specs.Conditions.{notAbove, formFillers, foreign, addressed, wrongState, badZip, wrongZip, wrongForeign, noSpouse, formRules};
+ghost use Rattle.words.specs.Sets.{bitsOn, bitsBy};
+ghost use Rattle.words.specs.Past.{earlier};
+ghost use Rattle.form.specs.Breaks.{breaks, noFacts};
 
 fn field_of(n: u32, form: &[u8]) -> &[u8]
     ensures { λ p. ⌜ now p ≡ field L4868 n (now (form .entry)) ⌝ }
@@ -47,22 +56,22 @@ fn is_addressed(n: u32, form: &[u8]) -> bool
     }
 }
 
-fn wrong_street(n: u32, form: &[u8]) -> bool
-    ensures { λ r. ⌜ r ≡ wrongStreet n (now (form .entry)) ⌝ }
+fn wrong_street(judged: bool, f: &[u8]) -> bool
+    ensures { λ r. ⌜ r ≡ (judged && not (street (now (f .entry)))) ⌝ }
 {
-    if !is_addressed(n, form) {
+    if !judged {
         return false;
     }
-    !field::street(field_of(n, form))
+    !field::street(f)
 }
 
-fn wrong_city(n: u32, form: &[u8]) -> bool
-    ensures { λ r. ⌜ r ≡ wrongCity n (now (form .entry)) ⌝ }
+fn wrong_city(judged: bool, f: &[u8]) -> bool
+    ensures { λ r. ⌜ r ≡ (judged && not (city (now (f .entry)))) ⌝ }
 {
-    if !is_addressed(n, form) {
+    if !judged {
         return false;
     }
-    !field::city(field_of(n, form))
+    !field::city(f)
 }
 
 fn no_lines(zips: &[u8]) -> bool
@@ -124,61 +133,181 @@ fn no_spouse(form: &[u8]) -> bool
     text::blank(field_of(100, form))
 }
 
-// 0010, by field.
-fn holds_0010(n: u32, form: &[u8]) -> bool
-    ensures { λ r. ⌜ r ≡ form0010 n (now (form .entry)) ⌝ }
+// 0060, 0061: digits, and not above the earlier number. It is given and 1, 0 for none; size is the first number of more digits.
+fn not_above(f: &[u8], past: u64, size: u64) -> bool
+    requires { ⌜ (size ≡ 10 ^ length (now f)) × (1 ≤ length (now f)) × (length (now f) ≤ 16) ⌝ }
+    ensures { λ r. ⌜ r ≡ notAbove (now (f .entry)) (earlier (length (now (f .entry))) past) ⌝ }
 {
-    match n {
-        112..=114 => words::not_x(field_of(n, form)),
-        120..=210 => words::not_digits(field_of(n, form)),
-        80 => !words::one_of(b"123 ", field_of(80, form)),
-        90 => !text::digits(field_of(90, form)),
-        100 => words::not_digits(field_of(100, form)),
-        _ => false,
+    if past == 0 {
+        return false;
     }
+    text::digits(f) & (words::number_of(f) <= (past - 1) % size)
 }
 
-// Whether the rule of this field and code is broken. The lines that the pack has of 0090, 0100 and the state, and the numbers of the
-// nearest earlier form, are looked up by the caller.
-pub fn holds(
-    n: u32,
-    code: u32,
+// The rules on the form and its head, before later ones.
+fn of_head(form: &[u8], date: &[u8], whole: Facts, later: u64) -> u64
+    ensures { λ r. ⌜ r ≡ bitsOn (breaks (now (form .entry)) [] [] [] 0 0 (now (date .entry)) whole) (1 ∷ 44 ∷ 45 ∷ 310 ∷ 30004 ∷ 50003 ∷ []) later ⌝ }
+{
+    let set = words::and_rule(!text::is_same(field_of(5, form), b"200312"), later);
+    let set = words::and_rule(
+        words::other_number(field_of(3, form), field_of(90, form)),
+        set,
+    );
+    let set = words::and_rule(words::late(date), set);
+    let set = words::and_rule(fillers(form), set);
+    let set = words::and_rule(words::wrong_page(field_of(2, form)), set);
+    words::and_rule(!whole.sum, set)
+}
+
+// The rules on 0007 and 0008, the numbers of the declaration, before later ones.
+fn of_numbers(form: &[u8], dsn: u64, dcn: u64, later: u64) -> u64
+    requires { ⌜ length (now form) ≡ 384 ⌝ }
+    ensures { λ r. ⌜ r ≡ bitsOn (breaks (now (form .entry)) [] [] [] dsn dcn [] noFacts) (70031 ∷ 70060 ∷ 80032 ∷ 80061 ∷ 80062 ∷ 80064 ∷ []) later ⌝ }
+{
+    let set = words::and_rule(words::not_year_4(field_of(8, form)), later);
+    let set = words::and_rule(words::not_double_0(field_of(8, form)), set);
+    let set = words::and_rule(not_above(field_of(8, form), dcn, 100000000000000), set);
+    let set = words::and_rule(!text::digits(field_of(8, form)), set);
+    let set = words::and_rule(not_above(field_of(7, form), dsn, 10000000000000000), set);
+    words::and_rule(!text::digits(field_of(7, form)), set)
+}
+
+// The rules on 0010 to 0030, the names, before later ones.
+fn of_names(form: &[u8], payer: &[u8], spouse: &[u8], later: u64) -> u64
+    ensures { λ r. ⌜ r ≡ bitsOn (breaks (now (form .entry)) (now (payer .entry)) (now (spouse .entry)) [] 0 0 [] noFacts) (100315 ∷ 200316 ∷ 300020 ∷ 300312 ∷ []) later ⌝ }
+{
+    let set = words::and_rule(
+        words::wrong_and(field_of(30, form), field_of(100, form)),
+        later,
+    );
+    let set = words::and_rule(!field::name(field_of(30, form)), set);
+    let set = words::and_rule(
+        words::unlisted(field_of(100, form), field_of(20, form), spouse),
+        set,
+    );
+    words::and_rule(
+        words::unlisted(field_of(90, form), field_of(10, form), payer),
+        set,
+    )
+}
+
+// The rules on 0032 to 0080, the address, before later ones.
+fn of_address(form: &[u8], zips: &[u8], later: u64) -> u64
+    ensures { λ r. ⌜ r ≡ bitsOn (breaks (now (form .entry)) [] [] (now (zips .entry)) 0 0 [] noFacts) (320007 ∷ 340007 ∷ 360023 ∷ 400007 ∷ 500023 ∷ 600022 ∷ 700016 ∷ 800010 ∷ 800306 ∷ []) later ⌝ }
+{
+    let set = words::and_rule(wrong_foreign(form), later);
+    let set = words::and_rule(!words::one_of(b"123 ", field_of(80, form)), set);
+    let set = words::and_rule(wrong_zip(form, zips), set);
+    let set = words::and_rule(wrong_state(form, zips), set);
+    let set = words::and_rule(wrong_city(is_addressed(50, form), field_of(50, form)), set);
+    let set = words::and_rule(
+        wrong_street(is_addressed(40, form), field_of(40, form)),
+        set,
+    );
+    let set = words::and_rule(wrong_city(is_addressed(36, form), field_of(36, form)), set);
+    let set = words::and_rule(
+        wrong_street(is_addressed(34, form), field_of(34, form)),
+        set,
+    );
+    words::and_rule(
+        wrong_street(is_addressed(32, form), field_of(32, form)),
+        set,
+    )
+}
+
+// The rules on 0090 to 0114, the taxpayer and the spouse, before later ones.
+fn of_payers(form: &[u8], later: u64) -> u64
+    ensures { λ r. ⌜ r ≡ bitsOn (breaks (now (form .entry)) [] [] [] 0 0 [] noFacts) (900010 ∷ 1000010 ∷ 1000071 ∷ 1000314 ∷ 1120010 ∷ 1140010 ∷ []) later ⌝ }
+{
+    let set = words::and_rule(words::not_x(field_of(114, form)), later);
+    let set = words::and_rule(words::not_x(field_of(112, form)), set);
+    let set = words::and_rule(no_spouse(form), set);
+    let set = words::and_rule(words::no_number(field_of(100, form)), set);
+    let set = words::and_rule(words::not_digits(field_of(100, form)), set);
+    words::and_rule(!text::digits(field_of(90, form)), set)
+}
+
+// The rules on 0120 to 0210, the money, before later ones.
+fn of_money(form: &[u8], later: u64) -> u64
+    ensures { λ r. ⌜ r ≡ bitsOn (breaks (now (form .entry)) [] [] [] 0 0 [] noFacts) (1200010 ∷ 1300010 ∷ 1400010 ∷ 1700010 ∷ 1800010 ∷ 2000010 ∷ 2100010 ∷ []) later ⌝ }
+{
+    let set = words::and_rule(words::not_digits(field_of(210, form)), later);
+    let set = words::and_rule(words::not_digits(field_of(200, form)), set);
+    let set = words::and_rule(words::not_digits(field_of(180, form)), set);
+    let set = words::and_rule(words::not_digits(field_of(170, form)), set);
+    let set = words::and_rule(words::not_digits(field_of(140, form)), set);
+    let set = words::and_rule(words::not_digits(field_of(130, form)), set);
+    words::and_rule(words::not_digits(field_of(120, form)), set)
+}
+
+// The set of the rules that a form breaks. The lines that the pack has of 0090, 0100 and the state are looked up by the caller; dsn and
+// dcn are 0007 and 0008 of the nearest earlier form and 1, 0 for none.
+pub fn broken(
     form: &[u8],
     payer: &[u8],
     spouse: &[u8],
     zips: &[u8],
-    dsn: &[u8],
-    dcn: &[u8],
+    dsn: u64,
+    dcn: u64,
     date: &[u8],
     whole: Facts,
-) -> bool
-    ensures { λ r. ⌜ r ≡ formHolds n code (sight (now (form .entry)) (now (payer .entry)) (now (spouse .entry)) (linesIn 8 (now (zips .entry))) (now (dsn .entry)) (now (dcn .entry)) (now (date .entry)) whole) ⌝ }
+) -> u64
+    ensures { λ r. ⌜ r ≡ cond (eqb (length (now (form .entry))) 384) (bitsBy (breaks (now (form .entry)) (now (payer .entry)) (now (spouse .entry)) (now (zips .entry)) dsn dcn (now (date .entry)) whole) formRules) 0 ⌝ }
 {
-    match code {
-        1 => !whole.sum,
-        3 => !text::is_same(field_of(5, form), b"200312"),
-        4 => words::other_number(field_of(3, form), field_of(90, form)),
-        7 => wrong_street(n, form),
-        10 => holds_0010(n, form),
-        16 => wrong_zip(form, zips),
-        20 => !field::name(field_of(30, form)),
-        22 => wrong_state(form, zips),
-        23 => wrong_city(n, form),
-        31 => !text::digits(field_of(7, form)),
-        32 => !text::digits(field_of(8, form)),
-        44 => words::wrong_page(field_of(2, form)),
-        45 => fillers(form),
-        60 => words::not_above(field_of(7, form), dsn),
-        61 => words::not_above(field_of(8, form), dcn),
-        62 => words::not_double_0(field_of(8, form)),
-        64 => words::not_year_4(field_of(8, form)),
-        71 => words::no_number(field_of(100, form)),
-        306 => wrong_foreign(form),
-        310 => words::late(date),
-        312 => words::wrong_and(field_of(30, form), field_of(100, form)),
-        314 => no_spouse(form),
-        315 => words::unlisted(field_of(90, form), field_of(10, form), payer),
-        316 => words::unlisted(field_of(100, form), field_of(20, form), spouse),
-        _ => false,
+    if form.len() != 384 {
+        return 0;
+    }
+    let set = of_money(form, 0);
+    let set = of_payers(form, set);
+    let set = of_address(form, zips, set);
+    let set = of_names(form, payer, spouse, set);
+    let set = of_numbers(form, dsn, dcn, set);
+    of_head(form, date, whole, set)
+}
+
+// The rule that has this place in the set.
+pub fn rule_at(i: usize) -> u32
+    ensures { λ r. ⌜ r ≡ getD formRules i 0 ⌝ }
+{
+    match i {
+        0 => 1,
+        1 => 44,
+        2 => 45,
+        3 => 310,
+        4 => 30004,
+        5 => 50003,
+        6 => 70031,
+        7 => 70060,
+        8 => 80032,
+        9 => 80061,
+        10 => 80062,
+        11 => 80064,
+        12 => 100315,
+        13 => 200316,
+        14 => 300020,
+        15 => 300312,
+        16 => 320007,
+        17 => 340007,
+        18 => 360023,
+        19 => 400007,
+        20 => 500023,
+        21 => 600022,
+        22 => 700016,
+        23 => 800010,
+        24 => 800306,
+        25 => 900010,
+        26 => 1000010,
+        27 => 1000071,
+        28 => 1000314,
+        29 => 1120010,
+        30 => 1140010,
+        31 => 1200010,
+        32 => 1300010,
+        33 => 1400010,
+        34 => 1700010,
+        35 => 1800010,
+        36 => 2000010,
+        37 => 2100010,
+        _ => 0,
     }
 }

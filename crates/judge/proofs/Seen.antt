@@ -1,201 +1,234 @@
--- The numbers of accepted documents, and what a document leaves for the later ones. Assumes nothing.
+-- What a document sees of the earlier ones, as numbers, and what it leaves for the later ones. Assumes nothing.
 use mathlib.Core.Path.{_≡_, refl, sym, ap, _∙_}
-use mathlib.Core.Bool.{Bool, true, false, cond, _&&_, _||_}
-use mathlib.Core.List.{List, [], _∷_, _++_, map-append}
-use Prim.Native.Nat.{ℕ, zero, suc, _+_, _-_, _≤_, _<_, min}
+use mathlib.Core.Bool.{Bool, true, false, not, cond, _&&_, _||_}
+use mathlib.Core.List.{List, [], _∷_, _++_, map, map-append}
+use Prim.Native.Nat.{ℕ, zero, suc, _+_, _-_, _%_, _≤_, _<_, min}
+use native.Mathlib.Nat.{mod-lt, mod-eq-of-lt}
 use native.Mathlib.Numerals.{add-one}
 use native.Mathlib.Omega.{arith}
-use lib.Dec.{eqb, ltb}
-use lib.ListN.{length, getD, take, drop, set, length-set, length-take, length-drop, drop-of-length-le}
-use lib.Seq.{drop-cons, drop-drop, take-all, take-take, take-suc-set}
-use borrow.Author.Tests.{lt-ltb, ne-eqb, ltb-true, ltb-false}
+use borrow.Author.Tests.{lt-ltb, le-ltb, ne-eqb, ltb-true, ltb-false, leb-true, leb-false, not-true, not-false}
+use lib.Dec.{eqb, leb, ltb, lit<}
+use lib.ListN.{length, getD, take, drop, set, length-set, length-take, length-drop}
+use lib.Seq.{take-all, take-suc-set}
 use Rattle.paper.specs.declared.Layout.the-variants.{L4868}
 use Rattle.paper.specs.declared.Letter.{Letter}
-use Rattle.paper.specs.declared.Kind.{Kind}
-use Rattle.paper.specs.declared.Step.{Step}
-use Rattle.paper.specs.declared.Kind.the-variants.{Form}
-use Rattle.paper.specs.Bytes.{Bytes, bit, same, before, member, part, digits, firstOr}
+use Rattle.paper.specs.Bytes.{Bytes, any, those, same, member, part, digits, number, written}
 use Rattle.paper.specs.Layouts.{form4868, entry, field}
-use Rattle.paper.specs.Pack.{Lines}
-use Rattle.paper.specs.Walk.{step, records, kindOf, is}
-use Rattle.paper.specs.Judge.{start, known, seen, digitsOr, afterKnown, passed, isA, asked, turn, after, letterOf}
-use Rattle.layout.proofs.Laws.{entry-low}
-use Rattle.walk.specs.Parts.{docHere}
-use Rattle.paper.proofs.Laws.{never}
-use Rattle.paper.proofs.KindLaws.{is-eq}
-use Rattle.walk.proofs.Sound.{stands-here}
-use Rattle.walk.proofs.Loops.{isRecord, Stepped, not-stepped, no-more, as-part}
+use Rattle.paper.specs.Judge.{start, digitsOr, isA}
+use Rattle.paper.proofs.Laws.{next, never, both, same-eq}
+use Rattle.words.specs.Past.{earlier}
+use Rattle.words.proofs.Digits.{length-written, digits-written, number-written, number-written-whole, written-number, same-number}
 use Rattle.judge.specs.declared.Past.{Past}
-use Rattle.judge.specs.declared.Standing.the-variants.{NoDigits, Above, NotAbove}
-use Rattle.judge.specs.Seen.{atPlace, numbersAt, seenBy, noPast, placeOf, lettered, standingOf, placeAfter, numbered, nextPast}
-
--- The loop over the places: r says whether the number at place i is this one
-module _ (t ssn : Bytes) (places : List ℕ) (i : ℕ) (v : member ssn (numbersAt t places) ≡ member ssn (numbersAt t (drop i places))) where
-  among-on : (p : Bytes) (r : Bool) → i < length places → p ≡ part (getD places i 0) 9 t → r ≡ same ssn p
-      → member ssn (numbersAt t places) ≡ (r || member ssn (numbersAt t (drop (i + 1) places)))
-  among-on p r h e q =
-      let d : drop i places ≡ getD places i 0 ∷ drop (i + 1) places = rw add-one (drop-cons places i 0 h) in
-      v ∙ ap (λ (l : List ℕ). member ssn (numbersAt t l)) d
-      ∙ ap (λ (b : Bool). b || member ssn (numbersAt t (drop (i + 1) places))) (sym (q ∙ ap (same ssn) e))
-
-  pub among-yes : (p : Bytes) (r : Bool) → i < length places → p ≡ part (getD places i 0) 9 t → r ≡ same ssn p → r ≡ true → true ≡ member ssn (numbersAt t places)
-  among-yes p r h e q y = sym (among-on p r h e q ∙ ap (λ (b : Bool). b || member ssn (numbersAt t (drop (i + 1) places))) y)
-
-  pub among-again : (p : Bytes) (r : Bool) → i < length places → p ≡ part (getD places i 0) 9 t → r ≡ same ssn p → r ≡ false
-      → member ssn (numbersAt t places) ≡ member ssn (numbersAt t (drop (i + 1) places))
-  among-again p r h e q y = among-on p r h e q ∙ ap (λ (b : Bool). b || member ssn (numbersAt t (drop (i + 1) places))) y
-
-  pub among-no : length places ≤ i → false ≡ member ssn (numbersAt t places)
-  among-no h = sym (v ∙ ap (λ (l : List ℕ). member ssn (numbersAt t l)) (drop-of-length-le places h))
-
-pub ruleset among = (among-yes, among-again, among-no)
-
--- THE 4868 AT A PLACE
-
--- a document of a known form starts with its 384 bytes
-pub form-here : (s : Bytes) → known (docHere s) ≡ true → (384 ≤ length s) × (records s ≡ take 384 s ∷ records (drop 384 s)) × (kindOf (take 384 s) ≡ Form)
-form-here s h = stands-here Form 384 (λ n. refl) (λ e. never (ap (λ (k : Kind). is Form k) (sym e))) s (is-eq Form (kindOf (firstOr (records s))) h)
-
-pub form-main : (s : Bytes) → known (docHere s) ≡ true → docHere s .main ≡ take 384 s
-form-main s h = ap firstOr (form-here s h .1)
-
-pub form-size : (t : Bytes) (at : ℕ) (m : Bytes) → known (docHere (drop at t)) ≡ true → m ≡ docHere (drop at t) .main → length m ≡ 384
-form-size t at m h e = ap length (e ∙ form-main (drop at t) h) ∙ (let n : length (take 384 (drop at t)) ≡ 384 = omega (arith, length-take 384 (drop at t), form-here (drop at t) h .0) in n)
-
-pub part-take : (n a w : ℕ) (l : Bytes) → a + w ≤ n → part a w (take n l) ≡ part a w l
-part-take n zero w l h = take-take w n l (omega arith)
-part-take zero (suc a) w l h = absurd (omega arith)
-part-take (suc n) (suc a) w [] h = refl
-part-take (suc n) (suc a) w (x ∷ l) h = part-take n a w l (omega arith)
-
--- a field of it, in the transmission
-pub field-here : (t : Bytes) (at n : ℕ) → field L4868 n (take 384 (drop at t)) ≡ part (placeOf at n) (entry L4868 n .width) t
-unfolding field
-field-here t at n =
-    part-take 384 (entry L4868 n .start) (entry L4868 n .width) (drop at t) (entry-low L4868 n)
-    ∙ ap (take (entry L4868 n .width)) (drop-drop (entry L4868 n .start) at t)
-
--- WHAT A DOCUMENT LEAVES
-
--- the nearest number is the one that is digits, above the earlier one or not
-pub nearest : (f e : Bytes) (place earlier : ℕ) → placeAfter (standingOf f e) place earlier ≡ cond (digits f) place earlier
-unfolding standingOf
-nearest f e place earlier = by (digits f) (before e f)
-  where
-    by : (d b : Bool) → placeAfter (cond d (cond b Above NotAbove) NoDigits) place earlier ≡ cond d place earlier
-    by true true = refl
-    by true false = refl
-    by false b = refl
-
-same-dsn : (at : ℕ) (l : Letter) (p : Past) → (lettered at l p .dsn ≡ p .dsn) × (lettered at l p .dcn ≡ p .dcn)
-unfolding lettered
-same-dsn at l p = by (isA l && ltb (p .n) 94)
-  where
-    q : Past
-    q = record { dsn = p .dsn; dcn = p .dcn; list = set (p .list) (p .n) (placeOf at 90); n = p .n + 1 }
-
-    by : (b : Bool) → (cond b q p .dsn ≡ p .dsn) × (cond b q p .dcn ≡ p .dcn)
-    by true = (refl, refl)
-    by false = (refl, refl)
-
-numbers : (t : Bytes) (at : ℕ) (l : Letter) (p : Past) (ssn : Bytes) → p .n < 94 → length (p .list) ≡ 94 → part (placeOf at 90) 9 t ≡ ssn
-    → numbersAt t (take (lettered at l p .n) (lettered at l p .list)) ≡ cond (isA l) (numbersAt t (take (p .n) (p .list)) ++ ssn ∷ []) (numbersAt t (take (p .n) (p .list)))
-unfolding lettered
-numbers t at l p ssn h w e = rw (lt-ltb (p .n) 94 h) (by (isA l))
-  where
-    q : Past
-    q = record { dsn = p .dsn; dcn = p .dcn; list = set (p .list) (p .n) (placeOf at 90); n = p .n + 1 }
-
-    by : (b : Bool) → numbersAt t (take (cond (b && true) q p .n) (cond (b && true) q p .list)) ≡ cond b (numbersAt t (take (p .n) (p .list)) ++ ssn ∷ []) (numbersAt t (take (p .n) (p .list)))
-    by true =
-        let here : p .n < length (p .list) = omega arith in
-        let more : take (p .n + 1) (set (p .list) (p .n) (placeOf at 90)) ≡ take (p .n) (p .list) ++ placeOf at 90 ∷ [] = rw add-one (take-suc-set (p .list) (p .n) (placeOf at 90) here) in
-        ap (numbersAt t) more ∙ map-append (λ (a : ℕ). part a 9 t) (take (p .n) (p .list)) (placeOf at 90 ∷ [])
-        ∙ ap (λ (b : Bytes). numbersAt t (take (p .n) (p .list)) ++ b ∷ []) e
-    by false = refl
-
--- the place of a field where it is digits, or an earlier one
-placed : (t : Bytes) (w a k e : ℕ) (f : Bytes) → 0 < a → k ≡ e → part a w t ≡ f → atPlace w (cond (digits f) a k) t ≡ digitsOr f (atPlace w e t)
-unfolding atPlace
-placed t w a k e f h q here = by (digits f)
-  where
-    by : (b : Bool) → cond (eqb (cond b a k) 0) [] (part (cond b a k) w t) ≡ cond b f (cond (eqb e 0) [] (part e w t))
-    by true = ap (λ (b : Bool). cond b [] (part a w t)) (ne-eqb a 0 (omega arith)) ∙ here
-    by false = ap (λ (x : ℕ). cond (eqb x 0) [] (part x w t)) q
-
-module _ (t : Bytes) (at : ℕ) (l : Letter) (p : Past) (room : p .n < 94) (whole : length (p .list) ≡ 94) where
-  known-leaves : known (docHere (drop at t)) ≡ true → seenBy t (numbered at (docHere (drop at t) .main) (lettered at l p)) ≡ afterKnown (seen (docHere (drop at t))) (isA l) (seenBy t p)
-  unfolding seenBy numbered entry form4868
-  known-leaves h =
-      let at-form : (n : ℕ) → part (placeOf at n) (entry L4868 n .width) t ≡ field L4868 n (docHere (drop at t) .main) = λ n. sym (field-here t at n) ∙ ap (field L4868 n) (sym (form-main (drop at t) h)) in
-      λ i. record {
-        dsn = placed t 16 (placeOf at 7) (lettered at l p .dsn) (p .dsn) (field L4868 7 (docHere (drop at t) .main)) (omega arith) (same-dsn at l p .0) (at-form 7) i;
-        dcn = placed t 14 (placeOf at 8) (lettered at l p .dcn) (p .dcn) (field L4868 8 (docHere (drop at t) .main)) (omega arith) (same-dsn at l p .1) (at-form 8) i;
-        accepted = numbers t at l p (field L4868 90 (docHere (drop at t) .main)) room whole (at-form 90) i;
-      }
-
-  pub leaves : seenBy t (nextPast t at l p) ≡ passed (seen (docHere (drop at t))) (isA l) (seenBy t p)
-  unfolding nextPast
-  leaves = by (known (docHere (drop at t))) refl
-    where
-      by : (b : Bool) → known (docHere (drop at t)) ≡ b
-          → seenBy t (cond b (numbered at (docHere (drop at t) .main) (lettered at l p)) p) ≡ cond b (afterKnown (seen (docHere (drop at t))) (isA l) (seenBy t p)) (seenBy t p)
-      by true h = known-leaves h
-      by false h = refl
-
--- the next document sees what stands in the paper after this one's turn
-pub leaves-after : (date : Bytes) (L : Lines) (t : Bytes) (at : ℕ) (p : Past) → p .n < 94 → length (p .list) ≡ 94
-    → seenBy t (nextPast t at (letterOf (turn date (seenBy t p) (asked L (docHere (drop at t))))) p) ≡ after (turn date (seenBy t p) (asked L (docHere (drop at t))))
-leaves-after date L t at p h w = leaves t at (letterOf (turn date (seenBy t p) (asked L (docHere (drop at t))))) p h w
-
--- a document adds its number where it got A, and nothing else
-pub next-few : (t : Bytes) (at : ℕ) (l : Letter) (p : Past) → (nextPast t at l p .n ≤ p .n + bit (isA l)) × (length (nextPast t at l p .list) ≡ length (p .list))
-unfolding nextPast numbered lettered
-next-few t at l p = by (known (docHere (drop at t))) (isA l) (ltb (p .n) 94)
-  where
-    q : Past
-    q = record { dsn = p .dsn; dcn = p .dcn; list = set (p .list) (p .n) (placeOf at 90); n = p .n + 1 }
-
-    by : (k a b : Bool)
-        → (cond k (numbered at (docHere (drop at t) .main) (cond (a && b) q p)) p .n ≤ p .n + bit a)
-        × (length (cond k (numbered at (docHere (drop at t) .main) (cond (a && b) q p)) p .list) ≡ length (p .list))
-    by true true true = (omega arith, length-set (p .list) (p .n) (placeOf at 90))
-    by true true false = (omega arith, refl)
-    by true false b = (omega arith, refl)
-    by false a b = (omega arith, refl)
+use Rattle.judge.specs.Seen.{numbersIn, seenBy, noPast, numberAfter, nextPast, nextRow}
 
 -- before the first document
-pub starts-empty : (t : Bytes) → seenBy t noPast ≡ start
-unfolding seenBy atPlace
-starts-empty t = refl
+pub starts-empty : (row : List ℕ) → seenBy noPast row ≡ start
+unfolding seenBy earlier
+starts-empty row = refl
 
--- THE FIRST RECORD OF A DOCUMENT
+-- ONE OF THE ACCEPTED NUMBERS
 
-pub first-none : (t : Bytes) (at : ℕ) (r : Step) → r ≡ step (drop at t) → isRecord r ≡ false → [] ≡ firstOr (records (drop at t))
-first-none t at r e q = by (ltb at (length t)) refl
+-- nine digits write a number below 1000000000
+nine-below : (s : Bytes) → length s ≡ 9 → digits s ≡ true → number s < 1000000000
+nine-below s n d =
+    let pos : 0 < 1000000000 = lit< tt in
+    let e : number s ≡ number s % 1000000000 =
+    ap number (sym (written-number s d)) ∙ ap (λ (w : ℕ). number (written w (number s))) n ∙ number-written 9 (number s) in
+    omega (arith, e, mod-lt (number s) pos)
+
+by-digits : (s : Bytes) (x : ℕ) → length s ≡ 9 → x < 1000000000 → same s (written 9 x) ≡ (digits s && eqb (number s) x)
+by-digits s x n h = by (digits s) refl
   where
-    by : (b : Bool) → ltb at (length t) ≡ b → [] ≡ firstOr (records (drop at t))
-    by true h = sym (ap firstOr (not-stepped t at r e q (ltb-true at (length t) h)))
-    by false h = sym (ap firstOr (no-more t at (ltb-false at (length t) h)))
+    by : (b : Bool) → digits s ≡ b → same s (written 9 x) ≡ (b && eqb (number s) x)
+    by true d = same-number s (written 9 x) (n ∙ sym (length-written 9 x)) d (digits-written 9 x) ∙ ap (eqb (number s)) (number-written-whole 9 x h)
+    by false d = no (same s (written 9 x)) refl
+      where
+        no : (c : Bool) → same s (written 9 x) ≡ c → c ≡ false
+        no true e = absurd (never (sym d ∙ ap digits (same-eq s (written 9 x) e) ∙ digits-written 9 x))
+        no false e = refl
 
-pub first-some : (t : Bytes) (at n : ℕ) → Stepped t at n → take (at + n - at) (drop at t) ≡ firstOr (records (drop at t))
-first-some t at n s = as-part t at n ∙ sym (ap firstOr (s .left))
-
--- its kind is that of a 4868, as the code tests it
-pub known-is : (t : Bytes) (at : ℕ) (m : Bytes) (k : Kind) (b c : Bool) → m ≡ docHere (drop at t) .main → k ≡ kindOf m → b ≡ is Form k → b ≡ c → known (docHere (drop at t)) ≡ c
-known-is t at m k b c e q r y = sym (r ∙ ap (is Form) (q ∙ ap kindOf e)) ∙ y
-
-pub known-fits : (t : Bytes) (at : ℕ) → known (docHere (drop at t)) ≡ true → at + 384 ≤ length t
-known-fits t at h = omega (arith, form-here (drop at t) h .0, length-drop at t)
-
-pub take-room : (n : ℕ) (l : List ℕ) → length l ≡ 94 → take (min 94 n) l ≡ take n l
-take-room n l e = by (ltb n 94) refl
+pub among : (s : Bytes) (row : List ℕ) → length s ≡ 9 → member s (numbersIn row) ≡ (digits s && any (eqb (number s)) row)
+among s [] n = by (digits s)
   where
-    by : (b : Bool) → ltb n 94 ≡ b → take (min 94 n) l ≡ take n l
+    by : (b : Bool) → false ≡ (b && false)
+    by true = refl
+    by false = refl
+among s (x ∷ row) n = by (ltb x 1000000000) refl (among s row n)
+  where
+    or-and : (a b c : Bool) → ((a && b) || (a && c)) ≡ (a && (b || c))
+    or-and true b c = refl
+    or-and false b c = refl
+
+    by : (b : Bool) → ltb x 1000000000 ≡ b → member s (numbersIn row) ≡ (digits s && any (eqb (number s)) row)
+        → member s (map (written 9) (cond b (x ∷ those (λ (y : ℕ). ltb y 1000000000) row) (those (λ (y : ℕ). ltb y 1000000000) row))) ≡ (digits s && (eqb (number s) x || any (eqb (number s)) row))
+    by true e ih = (λ i. by-digits s x n (ltb-true x 1000000000 e) i || ih i) ∙ or-and (digits s) (eqb (number s) x) (any (eqb (number s)) row)
+    by false e ih = ih ∙ at (digits s) refl
+      where
+        at : (c : Bool) → digits s ≡ c → (c && any (eqb (number s)) row) ≡ (c && (eqb (number s) x || any (eqb (number s)) row))
+        at true d = ap (λ (z : Bool). z || any (eqb (number s)) row) (sym (ne-eqb (number s) x (λ q. omega (arith, nine-below s n d, ltb-false x 1000000000 e))))
+        at false d = refl
+
+-- as many as there are
+take-room : (n : ℕ) (l : List ℕ) → take (min (length l) n) l ≡ take n l
+take-room n l = by (ltb n (length l)) refl
+  where
+    by : (b : Bool) → ltb n (length l) ≡ b → take (min (length l) n) l ≡ take n l
     by true h =
-        let w : n < 94 = ltb-true n 94 h in
-        let m : min 94 n ≡ n = omega arith in
+        let w : n < length l = ltb-true n (length l) h in
+        let m : min (length l) n ≡ n = omega arith in
         ap (λ (k : ℕ). take k l) m
     by false h =
-        let w : 94 ≤ n = ltb-false n 94 h in
-        take-all (min 94 n) l (omega arith) ∙ sym (take-all n l (omega arith))
+        let w : length l ≤ n = ltb-false n (length l) h in
+        take-all (min (length l) n) l (omega arith) ∙ sym (take-all n l (omega arith))
+
+-- the loop that looks for a number among the first n
+module _ (p : ℕ → Bool) (row : List ℕ) (n : ℕ) where
+  pub any-start : any p (take n row) ≡ (false || any p (take (n - 0) (drop 0 row)))
+  any-start = let e : n ≡ n - 0 = omega arith in ap (λ (k : ℕ). any p (take k row)) e
+
+  pub any-again : (i : ℕ) (a b : Bool) → i < n → i < length row → any p (take n row) ≡ (a || any p (take (n - i) (drop i row))) → b ≡ p (getD row i 0)
+      → any p (take n row) ≡ ((a || b) || any p (take (n - (i + 1)) (drop (i + 1) row)))
+  any-again i a b h l v e =
+      let m : n - i ≡ suc (n - (i + 1)) = omega arith in
+      v ∙ (λ j. a || any p (take (m j) (next row i l j))) ∙ ap (λ (c : Bool). a || (c || any p (take (n - (i + 1)) (drop (i + 1) row)))) (sym e) ∙ assoc a b (any p (take (n - (i + 1)) (drop (i + 1) row)))
+    where
+      assoc : (x y z : Bool) → (x || (y || z)) ≡ ((x || y) || z)
+      assoc true y z = refl
+      assoc false y z = refl
+
+  pub any-done : (i : ℕ) (a : Bool) → n ≤ i → any p (take n row) ≡ (a || any p (take (n - i) (drop i row))) → a ≡ any p (take n row)
+  any-done i a h v = let z : 0 ≡ n - i = omega arith in sym (v ∙ ap (λ (k : ℕ). a || any p (take k (drop i row))) (sym z) ∙ or-false a)
+    where
+      or-false : (x : Bool) → (x || false) ≡ x
+      or-false true = refl
+      or-false false = refl
+
+module _ (s : Bytes) (row : List ℕ) (w : length s ≡ 9) (d : Bool) (ed : d ≡ digits s) where
+  pub accepted-no : not d ≡ true → false ≡ member s (numbersIn row)
+  accepted-no h = sym (among s row w ∙ ap (λ (b : Bool). b && any (eqb (number s)) row) (sym ed ∙ not-true d h))
+
+module _ (s : Bytes) (row : List ℕ) (w : length s ≡ 9) (d : Bool) (ed : d ≡ digits s) (h : not d ≡ false) (key : ℕ) (ek : key ≡ number (take 16 s)) where
+  pub accepted-low : key < 1000000000
+  accepted-low = omega (arith, ek ∙ ap number (take-all 16 s (omega (arith, w))), nine-below s w (sym ed ∙ not-false d h))
+
+  pub accepted-yes : (n m : ℕ) → m ≡ min (length row) n → (r : Bool) → r ≡ any (eqb key) (take m row) → r ≡ member s (numbersIn (take n row))
+  accepted-yes n m em r er =
+      er ∙ (λ i. any (eqb ((ek ∙ ap number (take-all 16 s (omega (arith, w)))) i)) ((ap (λ (k : ℕ). take k row) em ∙ take-room n row) i))
+      ∙ ap (λ (b : Bool). b && any (eqb (number s)) (take n row)) (sym (sym ed ∙ not-false d h)) ∙ sym (among s (take n row) w)
+
+-- WHAT A FORM LEAVES
+
+part-wide : (from width : ℕ) (r : Bytes) → from + width ≤ length r → length (part from width r) ≡ width
+part-wide from width r h = omega (arith, length-take width (drop from r), length-drop from r)
+
+-- the fields that it leaves
+pub form-wide : (form : Bytes) → length form ≡ 384 → (length (field L4868 7 form) ≡ 16) × (length (field L4868 8 form) ≡ 14) × (length (field L4868 90 form) ≡ 9)
+unfolding field entry form4868
+form-wide form h = (part-wide 42 16 form (omega (arith, h)), part-wide 58 14 form (omega (arith, h)), part-wide 279 9 form (omega (arith, h)))
+
+-- what the code leaves
+module _ (form : Bytes) (l : Letter) (p : Past) (row : List ℕ) (f7 f8 : Bytes) (dsn dcn : ℕ) (a : Bool) (w : length form ≡ 384)
+    (e7 : f7 ≡ field L4868 7 form) (ed : dsn ≡ numberAfter f7 (p .dsn)) (e8 : f8 ≡ field L4868 8 form) (ec : dcn ≡ numberAfter f8 (p .dcn)) (ea : a ≡ isA l) where
+  numbers-are : (n : ℕ) → n ≡ cond (isA l && ltb (p .n) (length row)) (p .n + 1) (p .n) → record { dsn = dsn; dcn = dcn; n = n } ≡ nextPast form l p row
+  unfolding nextPast
+  numbers-are n e = λ i. record { dsn = (ed ∙ ap (λ (x : Bytes). numberAfter x (p .dsn)) e7) i; dcn = (ec ∙ ap (λ (x : Bytes). numberAfter x (p .dcn)) e8) i; n = e i }
+
+  full : (not a || leb (length row) (p .n)) ≡ true → (isA l && ltb (p .n) (length row)) ≡ false
+  full h = ap (λ (b : Bool). b && ltb (p .n) (length row)) (sym ea) ∙ by a (leb (length row) (p .n)) refl h
+    where
+      by : (b c : Bool) → leb (length row) (p .n) ≡ c → (not b || c) ≡ true → (b && ltb (p .n) (length row)) ≡ false
+      by true true q z = le-ltb (p .n) (length row) (leb-true (length row) (p .n) q)
+      by true false q z = absurd (never z)
+      by false c q z = refl
+
+  room-for : (not a || leb (length row) (p .n)) ≡ false → (isA l && ltb (p .n) (length row)) ≡ true
+  room-for h = ap (λ (b : Bool). b && ltb (p .n) (length row)) (sym ea) ∙ by a (leb (length row) (p .n)) refl h
+    where
+      by : (b c : Bool) → leb (length row) (p .n) ≡ c → (not b || c) ≡ false → (b && ltb (p .n) (length row)) ≡ true
+      by true true q z = absurd (never (sym z))
+      by true false q z = lt-ltb (p .n) (length row) (leb-false (length row) (p .n) q)
+      by false c q z = absurd (never (sym z))
+
+  pub pass-no : (not a || leb (length row) (p .n)) ≡ true → (record { dsn = dsn; dcn = dcn; n = p .n } ≡ nextPast form l p row) × (row ≡ nextRow form l p row)
+  unfolding nextRow
+  pass-no h = (numbers-are (p .n) (sym (ap (λ (b : Bool). cond b (p .n + 1) (p .n)) (full h))), sym (ap (λ (b : Bool). cond b (set row (p .n) (number (field L4868 90 form) % 4294967296)) row) (full h)))
+
+  pub pass-room : (not a || leb (length row) (p .n)) ≡ false → p .n < length row
+  pass-room h = ltb-true (p .n) (length row) (both (isA l) (ltb (p .n) (length row)) (room-for h) .1)
+
+  pub pass-yes : (not a || leb (length row) (p .n)) ≡ false → (f90 : Bytes) (x : ℕ) → f90 ≡ field L4868 90 form → x ≡ number (take 16 f90)
+      → (record { dsn = dsn; dcn = dcn; n = p .n + 1 } ≡ nextPast form l p row) × (set row (p .n) (x % 4294967296) ≡ nextRow form l p row)
+  unfolding nextRow
+  pass-yes h f90 x e90 ex =
+      let z : x ≡ number (field L4868 90 form) = ex ∙ ap (λ (y : Bytes). number (take 16 y)) e90 ∙ ap number (take-all 16 (field L4868 90 form) (omega (arith, form-wide form w .2))) in (
+        numbers-are (p .n + 1) (sym (ap (λ (b : Bool). cond b (p .n + 1) (p .n)) (room-for h))),
+        ap (λ (y : ℕ). set row (p .n) (y % 4294967296)) z ∙ sym (ap (λ (b : Bool). cond b (set row (p .n) (number (field L4868 90 form) % 4294967296)) row) (room-for h)),
+      )
+
+-- digits, or what is known of an earlier number
+pub nearest : (w n : ℕ) (f : Bytes) → length f ≡ w → earlier w (numberAfter f n) ≡ digitsOr f (earlier w n)
+unfolding earlier
+nearest w n f e = by (digits f) refl
+  where
+    by : (b : Bool) → digits f ≡ b → cond (eqb (cond b (number f + 1) n) 0) [] (written w (cond b (number f + 1) n - 1)) ≡ cond b f (cond (eqb n 0) [] (written w (n - 1)))
+    by true d =
+        let m : number f + 1 - 1 ≡ number f = omega arith in
+        ap (λ (c : Bool). cond c [] (written w (number f + 1 - 1))) (ne-eqb (number f + 1) 0 (λ q. omega arith))
+        ∙ (λ i. written (sym e i) (m i)) ∙ written-number f d
+    by false d = refl
+
+those-append : {A : Type 0} (p : A → Bool) (xs ys : List A) → those p (xs ++ ys) ≡ those p xs ++ those p ys
+those-append p [] ys = refl
+those-append p (x ∷ xs) ys = by (p x) (those-append p xs ys)
+  where
+    by : (b : Bool) → those p (xs ++ ys) ≡ those p xs ++ those p ys → cond b (x ∷ those p (xs ++ ys)) (those p (xs ++ ys)) ≡ cond b (x ∷ those p xs) (those p xs) ++ those p ys
+    by true e = ap (λ (l : List _). x ∷ l) e
+    by false e = e
+
+-- one number more
+more-numbers : (row : List ℕ) (s : Bytes) → length s ≡ 9 → digits s ≡ true → numbersIn (row ++ number s % 4294967296 ∷ []) ≡ numbersIn row ++ s ∷ []
+more-numbers row s n d =
+    let low : number s < 1000000000 = nine-below s n d in
+    let m : number s % 4294967296 ≡ number s = mod-eq-of-lt (omega arith) in
+    ap (λ (x : ℕ). numbersIn (row ++ x ∷ [])) m
+    ∙ ap (map (written 9)) (those-append (λ (x : ℕ). ltb x 1000000000) row (number s ∷ []) ∙ ap (λ (b : Bool). those (λ (x : ℕ). ltb x 1000000000) row ++ cond b (number s ∷ []) []) (lt-ltb (number s) 1000000000 low))
+    ∙ map-append (written 9) (those (λ (x : ℕ). ltb x 1000000000) row) (number s ∷ [])
+    ∙ ap (λ (x : Bytes). numbersIn row ++ x ∷ []) (ap (λ (w : ℕ). written w (number s)) (sym n) ∙ written-number s d)
+
+module _ (form : Bytes) (l : Letter) (p : Past) (row : List ℕ) (room : p .n < length row)
+    (n7 : length (field L4868 7 form) ≡ 16) (n8 : length (field L4868 8 form) ≡ 14) (n90 : length (field L4868 90 form) ≡ 9) (good : isA l ≡ true → digits (field L4868 90 form) ≡ true) where
+  numbers : numbersIn (take (nextPast form l p row .n) (nextRow form l p row)) ≡ cond (isA l) (numbersIn (take (p .n) row) ++ field L4868 90 form ∷ []) (numbersIn (take (p .n) row))
+  unfolding nextPast nextRow
+  numbers = rw (lt-ltb (p .n) (length row) room) (by (isA l) refl)
+    where
+      x : ℕ
+      x = number (field L4868 90 form) % 4294967296
+
+      by : (b : Bool) → isA l ≡ b → numbersIn (take (cond (b && true) (p .n + 1) (p .n)) (cond (b && true) (set row (p .n) x) row)) ≡ cond b (numbersIn (take (p .n) row) ++ field L4868 90 form ∷ []) (numbersIn (take (p .n) row))
+      by true a =
+          let m : take (p .n + 1) (set row (p .n) x) ≡ take (p .n) row ++ x ∷ [] = rw add-one (take-suc-set row (p .n) x room) in
+          ap numbersIn m ∙ more-numbers (take (p .n) row) (field L4868 90 form) n90 (good a)
+      by false a = refl
+
+  -- the next document sees what stands in the paper after this one
+  pub leaves : seenBy (nextPast form l p row) (nextRow form l p row) ≡ record {
+    dsn = digitsOr (field L4868 7 form) (seenBy p row .dsn);
+    dcn = digitsOr (field L4868 8 form) (seenBy p row .dcn);
+    accepted = cond (isA l) (seenBy p row .accepted ++ field L4868 90 form ∷ []) (seenBy p row .accepted);
+  }
+  unfolding seenBy nextPast
+  leaves = λ i. record {
+    dsn = nearest 16 (p .dsn) (field L4868 7 form) n7 i;
+    dcn = nearest 14 (p .dcn) (field L4868 8 form) n8 i;
+    accepted = numbers i;
+  }
+
+-- a form adds its number where it got A, and nothing else
+pub next-few : (form : Bytes) (l : Letter) (p : Past) (row : List ℕ) → (nextPast form l p row .n ≤ p .n + cond (isA l) 1 0) × (length (nextRow form l p row) ≡ length row)
+unfolding nextPast nextRow
+next-few form l p row = by (isA l) (ltb (p .n) (length row))
+  where
+    by : (a b : Bool) → (cond (a && b) (p .n + 1) (p .n) ≤ p .n + cond a 1 0) × (length (cond (a && b) (set row (p .n) (number (field L4868 90 form) % 4294967296)) row) ≡ length row)
+    by true true = (omega arith, length-set row (p .n) (number (field L4868 90 form) % 4294967296))
+    by true false = (omega arith, refl)
+    by false b = (omega arith, refl)

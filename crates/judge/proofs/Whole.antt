@@ -1,98 +1,120 @@
--- What the calls for one document give is the judgment of its turn. Assumes nothing.
+-- The letter, the records of a document that break a rule, and the judgment. Assumes nothing.
 use mathlib.Core.Path.{_≡_, refl, sym, ap, _∙_}
 use mathlib.Core.Bool.{Bool, true, false, not, cond, _&&_, _||_}
 use mathlib.Core.List.{List, [], _∷_, _++_, map, append-nil}
-use Prim.Native.Nat.{ℕ, suc, _+_, _*_, _≤_, _<_}
+use Prim.Native.Nat.{ℕ, suc, _+_, _-_, _≤_, _<_, min}
 use native.Mathlib.Omega.{arith}
+use borrow.Author.Tests.{eq-eqb, ne-eqb}
 use lib.Dec.{eqb, ltb}
 use lib.ListN.{length, take, drop}
-use lib.Seq.{drop-drop, drop-nil, take-nil}
-use borrow.Author.Tests.{eq-eqb, ne-eqb}
 use Rattle.paper.specs.declared.Facts.{Facts}
-use Rattle.paper.specs.declared.Found.{Found}
 use Rattle.paper.specs.declared.Findings.{Findings}
-use Rattle.paper.specs.declared.Judgment.{Judgment}
 use Rattle.paper.specs.declared.Kind.{Kind}
-use Rattle.paper.specs.declared.Kind.the-variants.{Form, Payment, Auth}
+use Rattle.paper.specs.declared.Kind.the-variants.{TranA, TranB, Form, Unknown, Payment, Auth, Summary, Recap, Stray}
 use Rattle.paper.specs.declared.Layout.the-variants.{L4868, LPayment}
 use Rattle.paper.specs.declared.Letter.{Letter}
 use Rattle.paper.specs.declared.Letter.the-variants.{R, D}
-use Rattle.paper.specs.Bytes.{Bytes, bit, empty, same, member, part, firstOr}
-use Rattle.paper.specs.Layouts.{field}
+use Rattle.paper.specs.Bytes.{Bytes, bit, every, those, empty, member, firstOr, written}
+use Rattle.paper.specs.Layouts.{form4868, entry, field}
 use Rattle.paper.specs.Pack.{Lines, linesIn}
-use Rattle.paper.specs.Walk.{Doc, records, kindOf, is, own}
-use Rattle.paper.specs.Conditions.{Sight, View, sight, view, factsOf}
-use Rattle.paper.specs.Judge.{Case, Turn, known, ssnOf, spouseOf, stateOf, itemOf, ifKnown, asked, findsIn, findsFrom, findings, letterBy, twice, letterOf, sightOf, turn}
-use Rattle.walk.specs.Shape.{rest, docRecords}
-use Rattle.walk.specs.Parts.{docHere}
+use Rattle.paper.specs.Walk.{Doc, named, kindOf, is, opens, goesOn}
+use Rattle.paper.specs.Conditions.{Sight, View, sight, view, factsOf, formRules, rulesOf}
+use Rattle.paper.specs.Judge.{Case, Turn, known, ssnOf, spouseOf, stateOf, itemOf, ifKnown, asked, findings, letterBy, twice, letterOf, sightOf, turn}
+use Rattle.paper.proofs.Laws.{never}
 use Rattle.paper.proofs.KindLaws.{is-eq}
-use Rattle.lookup.specs.Find.{countFor, placeFor, keyAt, lineIn, rowsIn}
+use Rattle.lookup.specs.Find.{lineIn, rowsIn}
+use Rattle.words.specs.Sets.{bitOn, bitsBy}
+use Rattle.words.specs.Past.{earlier}
+use Rattle.form.specs.Breaks.{breaks}
+use Rattle.walk.specs.declared.Extent.{Extent}
+use Rattle.walk.specs.Heads.{front, sized}
+use Rattle.walk.specs.Parts.{ownIn, docIf, docHere, docRecords, sizes, extentOf}
+use Rattle.walk.proofs.Docs.{own-goes}
+use Rattle.walk.proofs.Records.{kind-none}
+use Rattle.walk.proofs.Laws.{as-part}
+use Rattle.walk.proofs.Facts.{others-here, main-here, doc-fits}
 use Rattle.judge.specs.declared.Past.{Past}
-use Rattle.judge.specs.Kept.{noFindings, Held, held, listed, counted, keptOf, added}
-use Rattle.judge.specs.Seen.{atPlace, seenBy}
-use Rattle.judge.specs.Judged.{oneLine, searched, bankFor, itemIn, itemsIn, formFinds, sightIn, letterFor, judgmentOf}
-use Rattle.judge.proofs.Kept.{added-none, added-append}
-use Rattle.judge.proofs.Seen.{form-here, form-size}
-use Rattle.judge.proofs.Found.{found-few}
+use Rattle.judge.specs.declared.Judged.{Judged}
+use Rattle.judge.specs.Kept.{Broke, brokeIf, noFindings, Held, held, listed, counted, keptOf, added}
+use Rattle.judge.specs.Seen.{numbersIn, seenBy, nextPast, nextRow, pastAfter, rowAfter}
+use Rattle.judge.specs.Judged.{oneLine, searched, bankFor, itemIn, setIn, brokeFrom, sightIn, formBroke, brokeIn, judgmentOf, judgedOf}
+use Rattle.judge.proofs.Kept.{added-none, added-append, none-few, held-counted, held-listed}
+use Rattle.judge.proofs.Found.{others-same, empty-found}
 
 -- THE LETTER
 
-some-not-empty : {A : Type 0} (l : List A) → 0 < length l → empty l ≡ false
-some-not-empty [] h = absurd (omega arith)
-some-not-empty (x ∷ l) h = refl
+pub letter-r : (rows : ℕ) (b : Bool) → 0 < rows → R ≡ letterBy (eqb rows 0) b
+letter-r rows b h = ap (λ (c : Bool). letterBy c b) (sym (ne-eqb rows 0 (λ e. omega arith)))
 
-none-empty : {A : Type 0} (l : List A) → length l ≤ 0 → empty l ≡ true
-none-empty [] h = refl
-none-empty (x ∷ l) h = absurd (omega arith)
+module _ (rows : ℕ) (filed f90 ssn line : Bytes) (accepted : List Bytes) (clean : rows ≤ 0) (e-ssn : ssn ≡ f90) (e-line : line ≡ lineIn 9 ssn filed) where
+  on : letterBy (eqb rows 0) (not (empty (lineIn 9 f90 filed)) || member f90 accepted) ≡ letterBy true (not (empty line) || member ssn accepted)
+  on =
+      let z : rows ≡ 0 = omega arith in
+      (λ i. letterBy (eq-eqb rows 0 z i) (not (empty (lineIn 9 (sym e-ssn i) filed)) || member (sym e-ssn i) accepted)) ∙ ap (λ (l : Bytes). letterBy true (not (empty l) || member ssn accepted)) (sym e-line)
 
-module _ (t : Bytes) (all : ℕ) (filed form : Bytes) (p : Past) where
-  pub letter-r : 0 < all → R ≡ letterFor t all filed form p
-  unfolding letterFor
-  letter-r h = rw (ne-eqb all 0 (λ e. omega arith))
+  pub letter-filed : 0 < length line → D ≡ letterBy (eqb rows 0) (not (empty (lineIn 9 f90 filed)) || member f90 accepted)
+  letter-filed h = sym (on ∙ by line h)
+    where
+      by : (l : Bytes) → 0 < length l → letterBy true (not (empty l) || member ssn accepted) ≡ D
+      by [] q = absurd (omega arith)
+      by (x ∷ l) q = refl
 
-  module _ (ssn line : Bytes) (clean : all ≤ 0) (e-ssn : ssn ≡ field L4868 90 form) (e-line : line ≡ lineIn 9 ssn filed) where
-    on : letterFor t all filed form p ≡ letterBy true (not (empty line) || member ssn (seenBy t p .accepted))
-    unfolding letterFor
-    on =
-        let z : all ≡ 0 = omega arith in
-        (λ i. letterBy (eq-eqb all 0 z i) (not (empty (lineIn 9 (sym e-ssn i) filed)) || member (sym e-ssn i) (seenBy t p .accepted)))
-        ∙ ap (λ (l : Bytes). letterBy true (not (empty l) || member ssn (seenBy t p .accepted))) (sym e-line)
+  pub letter-rest : (b : Bool) → length line ≤ 0 → b ≡ member ssn accepted → letterBy true b ≡ letterBy (eqb rows 0) (not (empty (lineIn 9 f90 filed)) || member f90 accepted)
+  letter-rest b h e = sym (on ∙ by line h ∙ ap (letterBy true) (sym e))
+    where
+      by : (l : Bytes) → length l ≤ 0 → letterBy true (not (empty l) || member ssn accepted) ≡ letterBy true (member ssn accepted)
+      by [] q = refl
+      by (x ∷ l) q = absurd (omega arith)
 
-    pub letter-filed : 0 < length line → D ≡ letterFor t all filed form p
-    letter-filed h = sym (on ∙ ap (λ (b : Bool). letterBy true (not b || member ssn (seenBy t p .accepted))) (some-not-empty line h))
+-- THE RECORDS OF A 4868 DOCUMENT
 
-    pub letter-rest : (b : Bool) → length line ≤ 0 → b ≡ member ssn (seenBy t p .accepted) → letterBy true b ≡ letterFor t all filed form p
-    letter-rest b h e =
-        sym (on ∙ ap (λ (x : Bool). letterBy true (not x || member ssn (seenBy t p .accepted))) (none-empty line h) ∙ ap (letterBy true) (sym e))
-
--- THE FINDINGS OF A 4868 DOCUMENT
-
-pub first-few : (k : Kind) (v : View) (row x : List (List ℕ)) (f : Findings) → held x f ≡ keptOf row (findsIn k 0 v) → f .all ≤ 44
-unfolding counted
-first-few k v row x f e = rw (ap (λ (h : Held). h .all) e) (found-few k 0 v)
-
-module _
-    (form taxpayers banks states dsn dcn date : Bytes) (whole : Facts) (rs : List Bytes) (f90 f100 f60 payer spouse zips : Bytes) (row : List (List ℕ)) (first r : Held)
+module _ (t : Bytes) (at : ℕ) (form taxpayers banks states date : Bytes) (p : Past) (whole : Facts) (k : is Form (kindOf (docHere (drop at t) .main)) ≡ true) (ef : form ≡ docHere (drop at t) .main)
+    (f90 f100 f60 payer spouse zips : Bytes) (set : ℕ) (row : List (List ℕ)) (none : Findings) (first r : Held)
     (e90 : f90 ≡ field L4868 90 form) (e-payer : payer ≡ lineIn 33 f90 taxpayers)
     (e100 : f100 ≡ field L4868 100 form) (e-spouse : spouse ≡ lineIn 33 f100 taxpayers)
     (e60 : f60 ≡ field L4868 60 form) (e-zips : zips ≡ rowsIn 8 f60 states)
-    (e-first : first ≡ keptOf row (findsIn Form 0 (view (sight form payer spouse (linesIn 8 zips) dsn dcn date whole) form [] 0 0)))
-    (e-others : r ≡ added first (findsFrom (sight form payer spouse (linesIn 8 zips) dsn dcn date whole) (length form) 0 0 (itemsIn banks rs))) where
-  seen-is : sight form payer spouse (linesIn 8 zips) dsn dcn date whole ≡ sightIn form taxpayers states dsn dcn date whole
+    (n : length form ≡ 384)
+    (e-set : set ≡ cond (eqb (length form) 384) (bitsBy (breaks form payer spouse zips (p .dsn) (p .dcn) date whole) formRules) 0)
+    (e-none : none ≡ noFindings)
+    (e-first : first ≡ added (held row none) (brokeIf at Form set))
+    (e-others : r ≡ added first (brokeFrom (sight form payer spouse [] [] [] [] whole) (at + length form) 0 0 (map (itemIn banks) (docHere (drop at t) .others)))) where
+  abbrev d : Doc
+  d = docHere (drop at t)
+
+  abbrev S : Sight
+  S = sight form payer spouse (linesIn 8 zips) (earlier 16 (p .dsn)) (earlier 14 (p .dcn)) date whole
+
+  seen-is : S ≡ sightIn form taxpayers states date p whole
   unfolding sightIn
   seen-is =
-      let p : payer ≡ lineIn 33 (field L4868 90 form) taxpayers = e-payer ∙ ap (λ (k : Bytes). lineIn 33 k taxpayers) e90 in
-      let s : spouse ≡ lineIn 33 (field L4868 100 form) taxpayers = e-spouse ∙ ap (λ (k : Bytes). lineIn 33 k taxpayers) e100 in
-      let z : zips ≡ rowsIn 8 (field L4868 60 form) states = e-zips ∙ ap (λ (k : Bytes). rowsIn 8 k states) e60 in
-      λ i. sight form (p i) (s i) (linesIn 8 (z i)) dsn dcn date whole
+      let x : payer ≡ lineIn 33 (field L4868 90 form) taxpayers = e-payer ∙ ap (λ (key : Bytes). lineIn 33 key taxpayers) e90 in
+      let y : spouse ≡ lineIn 33 (field L4868 100 form) taxpayers = e-spouse ∙ ap (λ (key : Bytes). lineIn 33 key taxpayers) e100 in
+      let z : zips ≡ rowsIn 8 (field L4868 60 form) states = e-zips ∙ ap (λ (key : Bytes). rowsIn 8 key states) e60 in
+      λ i. sight form (x i) (y i) (linesIn 8 (z i)) (earlier 16 (p .dsn)) (earlier 14 (p .dcn)) date whole
 
-  pub form-found : r ≡ keptOf row (formFinds (sightIn form taxpayers states dsn dcn date whole) form banks rs)
+  set-is : set ≡ setIn Form (view S form [] 0 0)
+  set-is = e-set ∙ ap (λ (c : Bool). cond c (bitsBy (breaks form payer spouse zips (p .dsn) (p .dcn) date whole) formRules) 0) (eq-eqb (length form) 384 n)
+
+  go-on : every (λ (x : Bytes). goesOn (kindOf x)) (d .others) ≡ true
+  go-on =
+      ap (every (λ (x : Bytes). goesOn (kindOf x))) (others-here t at (ap (λ (c : Bool). c || is Unknown (kindOf (d .main))) k))
+      ∙ own-goes (drop (at + length (d .main)) t)
+
+  kind : kindOf (d .main) ≡ Form
+  kind = is-eq Form (kindOf (d .main)) k
+
+  pub form-found : r ≡ keptOf row (formBroke at (docHere (drop at t)) taxpayers banks states date p whole)
   form-found =
-      let s = sight form payer spouse (linesIn 8 zips) dsn dcn date whole in
-      let a = findsIn Form 0 (view s form [] 0 0) in
-      let o = findsFrom s (length form) 0 0 (itemsIn banks rs) in
-      e-others ∙ ap (λ (x : Held). added x o) (e-first ∙ sym (added-none row a)) ∙ added-append (held row noFindings) a o ∙ added-none row (a ++ o)
-      ∙ ap (λ (x : Sight). keptOf row (formFinds x form banks rs)) seen-is
+      let o = brokeFrom S (at + length form) 0 0 (map (itemIn banks) (d .others)) in
+      let h = held row noFindings in
+      e-others
+      ∙ (λ i. added ((e-first ∙ (λ j. added (held row (e-none j)) (brokeIf at Form (set-is j)))) i) (others-same banks form payer spouse (linesIn 8 zips) (earlier 16 (p .dsn)) (earlier 14 (p .dcn)) date whole (d .others) (at + length form) 0 0 go-on i))
+      ∙ added-append h (brokeIf at Form (setIn Form (view S form [] 0 0))) o (none-few noFindings refl .0)
+      ∙ added-none row (brokeIf at Form (setIn Form (view S form [] 0 0)) ++ o)
+      ∙ (λ i. keptOf row (brokeIf at Form (setIn Form (view (seen-is i) form [] 0 0)) ++ brokeFrom (seen-is i) (at + length form) 0 0 (map (itemIn banks) (d .others))))
+      ∙ (λ i. keptOf row (brokeIf at Form (setIn Form (view (sightIn (ef i) taxpayers states date p whole) (ef i) [] 0 0)) ++ brokeFrom (sightIn (ef i) taxpayers states date p whole) (at + length (ef i)) 0 0 (map (itemIn banks) (d .others))))
+      ∙ (λ i. keptOf row (brokeIf at (sym kind i) (setIn (sym kind i) (view (sightIn (d .main) taxpayers states date p whole) (d .main) [] 0 0))
+      ++ brokeFrom (sightIn (d .main) taxpayers states date p whole) (at + length (d .main)) (0 + bit (is Payment (sym kind i))) (0 + bit (is Auth (sym kind i))) (map (itemIn banks) (d .others))))
 
 -- WHAT THE PACK SAYS OF A DOCUMENT
 
@@ -139,126 +161,198 @@ caseIf b L d = record {
 pub asked-if : (b : Bool) (L : Lines) (d : Doc) → known d ≡ b → asked L d ≡ caseIf b L d
 asked-if b L d h = ap (λ (x : Bool). caseIf x L d) h
 
-empty-eqb : {A : Type 0} (l : List A) → eqb (length l) 0 ≡ empty l
-empty-eqb [] = refl
-empty-eqb (x ∷ l) = ne-eqb (suc (length l)) 0 (λ e. omega arith)
-
-kept-all : (l : List Found) → counted l .all ≡ length l
-unfolding counted
-kept-all l = refl
-
 -- THE JUDGMENT
 
-module _ (t date : Bytes) (at : ℕ) (p : Past) (b : Bool) (L : Lines) (form filed : Bytes) (facts : Facts) (found : Findings) (letter : Letter)
-    (k : known (docHere (drop at t)) ≡ b)
-    (e-form : form ≡ docHere (drop at t) .main)
-    (e-facts : facts ≡ factsOf (docRecords (drop at t)))
-    (e-done : lineIn 9 (field L4868 90 (docHere (drop at t) .main)) filed ≡ firstOr (ifKnown b L 3 (ssnOf (docHere (drop at t)))))
-    (e-found : found ≡ counted (findings (turn date (seenBy t p) (caseIf b L (docHere (drop at t))))))
-    (e-letter : letter ≡ letterFor t (found .all) filed form p) where
+empty-eqb : (l : List Broke) → eqb (min 96 (length l)) 0 ≡ empty l
+empty-eqb [] = refl
+empty-eqb (x ∷ l) = ne-eqb (min 96 (suc (length l))) 0 (λ e. omega arith)
+
+-- of a document in its turn: each result, and what is known of it
+module _ (t date : Bytes) (at : ℕ) (p : Past) (row : List ℕ) (k : Bool) (L : Lines) (e : Extent) (ee : e ≡ extentOf (drop at t)) (known-is : known (docHere (drop at t)) ≡ k) where
+  abbrev doc : Doc
+  doc = docHere (drop at t)
+
   abbrev T : Turn
-  T = turn date (seenBy t p) (caseIf b L (docHere (drop at t)))
+  T = turn date (seenBy p row) (caseIf k L doc)
 
-  letter-is : letter ≡ letterOf T
-  unfolding letterOf twice letterFor
-  letter-is =
-      let z : eqb (found .all) 0 ≡ empty (findings T) = ap (λ (f : Findings). eqb (f .all) 0) e-found ∙ ap (λ (n : ℕ). eqb n 0) (kept-all (findings T)) ∙ empty-eqb (findings T) in
-      e-letter
-      ∙ (λ i. letterBy (z i) (not (empty (lineIn 9 (field L4868 90 (e-form i)) filed)) || member (field L4868 90 (e-form i)) (seenBy t p .accepted)))
-      ∙ (λ i. letterBy (empty (findings T)) (not (empty (e-done i)) || member (ssnOf (docHere (drop at t))) (seenBy t p .accepted)))
+  abbrev U : Turn
+  U = turn date (seenBy p row) (asked L doc)
 
-  judged : _≡_ {A = Judgment} (record { letter = letter; known = b; found = found; facts = facts }) (judgmentOf (turn date (seenBy t p) (asked L (docHere (drop at t)))))
-  unfolding judgmentOf docRecords
-  judged =
-      (λ i. record { letter = letter-is i; known = sym k i; found = e-found i; facts = e-facts i })
-      ∙ ap (λ (c : Case). judgmentOf (turn date (seenBy t p) c)) (sym (asked-if b L (docHere (drop at t)) k))
+  turn-is : T ≡ U
+  turn-is = ap (λ (c : Case). turn date (seenBy p row) c) (sym (asked-if k L doc known-is))
 
--- of a 4868 document: each call's result, and what it ensures
-module _ (t taxpayers banks filed states date : Bytes) (at : ℕ) (p : Past) (form dsn dcn : Bytes) (facts : Facts) (found : Findings) (letter : Letter)
-    (k : known (docHere (drop at t)) ≡ true)
-    (e-facts : facts ≡ factsOf (docRecords (drop at t)))
-    (e-form : form ≡ docHere (drop at t) .main)
-    (e-dsn : dsn ≡ atPlace 16 (p .dsn) t)
-    (e-dcn : dcn ≡ atPlace 14 (p .dcn) t)
-    (e-found : found ≡ counted (formFinds (sightIn form taxpayers states dsn dcn date facts) form banks (records (drop (at + length form) t))))
-    (e-letter : letter ≡ letterFor t (found .all) filed form p) where
-  abbrev d : Doc
-  d = docHere (drop at t)
+  module _ (found : Findings) (letter : Letter) (next : Past) (row' : List ℕ) (list x : List (List ℕ))
+      (e-held : held x found ≡ keptOf list (brokeIn at T)) (e-letter : letter ≡ letterOf T)
+      (e-past : next ≡ cond k (nextPast (doc .main) letter p row) p) (e-row : row' ≡ cond k (nextRow (doc .main) letter p row) row) where
+    pub judged-is : _≡_ {A = Judged} (record { judgment = record { size = e .size; letter = letter; known = k; found = found; facts = e .facts }; past = next }) (judgedOf at U p row)
+    unfolding judgmentOf extentOf
+    judged-is =
+        (λ i. record {
+          judgment = record { size = ee i .size; letter = e-letter i; known = sym known-is i; found = held-counted list x (brokeIn at T) found e-held i; facts = ee i .facts };
+          past = (e-past ∙ (λ j. cond (sym known-is j) (nextPast (doc .main) (e-letter j) p row) p)) i;
+        })
+        ∙ ap (λ (u : Turn). judgedOf at u p row) turn-is
 
-  abbrev S : Lines
-  S = searched taxpayers banks filed states
+    pub row-is : row' ≡ rowAfter U p row
+    row-is = e-row ∙ (λ j. cond (sym known-is j) (nextRow (doc .main) (e-letter j) p row) row) ∙ ap (λ (u : Turn). rowAfter u p row) turn-is
+
+    pub list-is : x ≡ listed list (brokeIn at U)
+    list-is = held-listed list x (brokeIn at T) found e-held ∙ ap (λ (u : Turn). listed list (brokeIn at u)) turn-is
+
+  -- no finding, no record that breaks a rule
+  pub clean-same : (found : Findings) → found ≡ counted (brokeIn at T) → eqb (found .rows) 0 ≡ empty (findings T)
+  unfolding counted brokeIn findings
+  clean-same found q = ap (λ (f : Findings). eqb (f .rows) 0) q ∙ empty-eqb (brokeIn at T) ∙ empty-found (sightOf T) at 0 0 (T .subject .items)
+
+-- of a 4868 document
+module _ (t taxpayers banks filed states date : Bytes) (at : ℕ) (p : Past) (row : List ℕ) (e : Extent) (ee : e ≡ extentOf (drop at t)) (k : known (docHere (drop at t)) ≡ true) where
+  abbrev Z : Lines
+  Z = searched taxpayers banks filed states
 
   abbrev K : Turn
-  K = turn date (seenBy t p) (caseIf true S d)
+  K = turn date (seenBy p row) (caseIf true Z (docHere (drop at t)))
 
-  sight-is : sightIn form taxpayers states dsn dcn date facts ≡ sightOf K
-  unfolding sightIn seenBy docRecords
+  sight-is : sightIn (docHere (drop at t) .main) taxpayers states date p (e .facts) ≡ sightOf K
+  unfolding sightIn seenBy extentOf
   sight-is =
-      (λ i. sight (e-form i) (lineIn 33 (field L4868 90 (e-form i)) taxpayers) (lineIn 33 (field L4868 100 (e-form i)) taxpayers)
-      (linesIn 8 (rowsIn 8 (field L4868 60 (e-form i)) states)) (e-dsn i) (e-dcn i) date (e-facts i))
-      ∙ (λ i. sight (d .main) (sym (searched-taxpayer taxpayers banks filed states (ssnOf d)) i) (sym (searched-taxpayer taxpayers banks filed states (spouseOf d)) i)
-      (sym (searched-states taxpayers banks filed states (stateOf d)) i) (seenBy t p .dsn) (seenBy t p .dcn) date (factsOf (d .main ∷ d .others)))
+      let d = docHere (drop at t) in
+      λ i. sight (d .main) (sym (searched-taxpayer taxpayers banks filed states (ssnOf d)) i) (sym (searched-taxpayer taxpayers banks filed states (spouseOf d)) i)
+      (sym (searched-states taxpayers banks filed states (stateOf d)) i) (earlier 16 (p .dsn)) (earlier 14 (p .dcn)) date (ee i .facts)
 
-  others-are : own (records (drop (at + length form) t)) ≡ d .others
-  others-are =
-      ap (λ (x : ℕ). own (records (drop (at + x) t))) (form-size t at form k e-form) ∙ ap (λ (x : Bytes). own (records x)) (sym (drop-drop 384 at t))
-      ∙ ap (λ (x : List Bytes). own (rest x)) (sym (form-here (drop at t) k .1))
+  form-broke : formBroke at (docHere (drop at t)) taxpayers banks states date p (e .facts) ≡ brokeIn at K
+  unfolding brokeIn
+  form-broke = λ i. brokeFrom (sight-is i) at 0 0 (record { bytes = docHere (drop at t) .main; bank = [] } ∷ items-are taxpayers banks filed states (docHere (drop at t) .others) i)
 
-  kind : kindOf (d .main) ≡ Form
-  kind = is-eq Form (kindOf (d .main)) k
+  module _ (form : Bytes) (found : Findings) (letter : Letter) (next : Past) (row' : List ℕ) (list x : List (List ℕ)) (ef : form ≡ docHere (drop at t) .main)
+      (e-found : held x found ≡ keptOf list (formBroke at (docHere (drop at t)) taxpayers banks states date p (e .facts)))
+      (e-letter : letter ≡ letterBy (eqb (found .rows) 0) (not (empty (lineIn 9 (field L4868 90 form) filed)) || member (field L4868 90 form) (numbersIn (take (p .n) row))))
+      (e-past : next ≡ nextPast form letter p row) (e-row : row' ≡ nextRow form letter p row) where
+    e-held : held x found ≡ keptOf list (brokeIn at K)
+    e-held = e-found ∙ ap (keptOf list) form-broke
 
-  form-finds : formFinds (sightIn form taxpayers states dsn dcn date facts) form banks (records (drop (at + length form) t)) ≡ findings K
-  unfolding findings
-  form-finds =
-      let z : length (d .main) ≡ 0 + length (d .main) = omega arith in
-      let its : map (itemIn banks) (own (records (drop (at + length form) t))) ≡ map (itemOf S) (d .others) =
-      ap (map (itemIn banks)) others-are ∙ items-are taxpayers banks filed states (d .others) in
-      (λ i. findsIn Form 0 (view (sight-is i) (e-form i) [] 0 0) ++ findsFrom (sight-is i) (length (e-form i)) 0 0 (its i))
-      ∙ (λ i. findsIn (sym kind i) 0 (view (sightOf K) (d .main) [] 0 0)
-      ++ findsFrom (sightOf K) (z i) (0 + bit (is Payment (sym kind i))) (0 + bit (is Auth (sym kind i))) (map (itemOf S) (d .others)))
+    letter-is : letter ≡ letterOf K
+    unfolding letterOf twice seenBy
+    letter-is =
+        e-letter
+        ∙ (λ i. letterBy (clean-same t date at p row true Z e ee k found (held-counted list x (brokeIn at K) found e-held) i) (not (empty (lineIn 9 (field L4868 90 (ef i)) filed)) || member (field L4868 90 (ef i)) (numbersIn (take (p .n) row))))
+        ∙ (λ i. letterBy (empty (findings K)) (not (empty (sym (searched-filed taxpayers banks filed states (ssnOf (docHere (drop at t)))) i)) || member (ssnOf (docHere (drop at t))) (numbersIn (take (p .n) row))))
 
-  pub listed-form : formFinds (sightIn form taxpayers states dsn dcn date facts) form banks (records (drop (at + length form) t)) ≡ findings (turn date (seenBy t p) (asked S (docHere (drop at t))))
-  listed-form = form-finds ∙ ap (λ (c : Case). findings (turn date (seenBy t p) c)) (sym (asked-if true S (docHere (drop at t)) k))
-
-  pub judged-form : _≡_ {A = Judgment} (record { letter = letter; known = true; found = found; facts = facts }) (judgmentOf (turn date (seenBy t p) (asked (searched taxpayers banks filed states) (docHere (drop at t)))))
-  judged-form =
-      judged t date at p true S form filed facts found letter k e-form e-facts
-      (sym (searched-filed taxpayers banks filed states (ssnOf d))) (e-found ∙ ap counted form-finds) e-letter
+    pub form-judged : (record { judgment = record { size = e .size; letter = letter; known = true; found = found; facts = e .facts }; past = next } ≡ judgedOf at (turn date (seenBy p row) (asked (searched taxpayers banks filed states) (docHere (drop at t)))) p row)
+        × (row' ≡ rowAfter (turn date (seenBy p row) (asked (searched taxpayers banks filed states) (docHere (drop at t)))) p row)
+        × (x ≡ listed list (brokeIn at (turn date (seenBy p row) (asked (searched taxpayers banks filed states) (docHere (drop at t))))))
+    form-judged =
+        let q : next ≡ nextPast (docHere (drop at t) .main) letter p row = e-past ∙ ap (λ (f : Bytes). nextPast f letter p row) ef in
+        let w : row' ≡ nextRow (docHere (drop at t) .main) letter p row = e-row ∙ ap (λ (f : Bytes). nextRow f letter p row) ef in (
+          judged-is t date at p row true Z e ee k found letter next row' list x e-held letter-is q w,
+          row-is t date at p row true Z e ee k found letter next row' list x e-held letter-is q w,
+          list-is t date at p row true Z e ee k found letter next row' list x e-held letter-is q w,
+        )
 
 -- of any other: nothing is looked up, and nothing but the first record is judged
-line-none : (w : ℕ) (key : Bytes) → lineIn w key [] ≡ []
-unfolding lineIn
-line-none w key = by (ltb (placeFor w key []) (countFor w key []) && same (keyAt w (length key) [] (placeFor w key [])) key) (placeFor w key [] * w)
+member-none : (row : List ℕ) → member [] (numbersIn row) ≡ false
+member-none [] = refl
+member-none (x ∷ row) = by (ltb x 1000000000) (member-none row)
   where
-    by : (b : Bool) (n : ℕ) → cond b (part n w []) [] ≡ []
-    by true n = ap (take w) (drop-nil n) ∙ take-nil w
-    by false n = refl
+    by : (b : Bool) → member [] (numbersIn row) ≡ false → member [] (map (written 9) (cond b (x ∷ those (λ (y : ℕ). ltb y 1000000000) row) (those (λ (y : ℕ). ltb y 1000000000) row))) ≡ false
+    by true e = e
+    by false e = e
 
-module _ (t taxpayers banks filed states date : Bytes) (at : ℕ) (p : Past) (form dsn dcn : Bytes) (kind : Kind) (facts : Facts) (found : Findings) (letter : Letter)
-    (k : known (docHere (drop at t)) ≡ false)
-    (e-facts : facts ≡ factsOf (docRecords (drop at t)))
-    (e-form : form ≡ docHere (drop at t) .main)
-    (e-kind : kind ≡ kindOf form)
-    (e-dsn : dsn ≡ atPlace 16 (p .dsn) t)
-    (e-dcn : dcn ≡ atPlace 14 (p .dcn) t)
-    (e-found : found ≡ counted (findsIn kind 0 (view (sight form [] [] (linesIn 8 []) dsn dcn date facts) form [] 0 0)))
-    (e-letter : letter ≡ letterFor t (found .all) [] form p) where
-  abbrev e : Doc
-  e = docHere (drop at t)
+-- its first record
+one-set : (v : View) (k : Kind) → opens k ≡ true → is Form k ≡ false → setIn k v ≡ bit (is Unknown k)
+unfolding bitOn
+one-set v TranA o f = refl
+one-set v TranB o f = refl
+one-set v Form o f = absurd (never (sym f))
+one-set v Unknown o f = refl
+one-set v Payment o f = absurd (never o)
+one-set v Auth o f = absurd (never o)
+one-set v Summary o f = absurd (never o)
+one-set v Recap o f = refl
+one-set v Stray o f = refl
 
+module _ (t : Bytes) (at : ℕ) (v : View) where
+  other-set : known (docHere (drop at t)) ≡ false → setIn (kindOf (docHere (drop at t) .main)) v ≡ bit (is Unknown (kindOf (docHere (drop at t) .main)))
+  unfolding docHere
+  other-set h = by (opens (kindOf (front (drop at t)))) refl h
+    where
+      by : (b : Bool) → opens (kindOf (front (drop at t))) ≡ b → is Form (kindOf (docIf b (drop at t) .main)) ≡ false
+          → setIn (kindOf (docIf b (drop at t) .main)) v ≡ bit (is Unknown (kindOf (docIf b (drop at t) .main)))
+      by true o f = one-set v (kindOf (front (drop at t))) o f
+      by false o f = ap (λ (k : Kind). setIn k v) kind-none ∙ ap (λ (k : Kind). bit (is Unknown k)) (sym kind-none)
+
+-- where no rule of it is broken, it has no byte
+no-bytes : (t : Bytes) (at : ℕ) → known (docHere (drop at t)) ≡ false → is Unknown (kindOf (docHere (drop at t) .main)) ≡ false → docHere (drop at t) .main ≡ []
+unfolding docHere
+no-bytes t at h u = by (opens (kindOf (front (drop at t)))) refl h u
+  where
+    by : (b : Bool) → opens (kindOf (front (drop at t))) ≡ b → is Form (kindOf (docIf b (drop at t) .main)) ≡ false → is Unknown (kindOf (docIf b (drop at t) .main)) ≡ false → docIf b (drop at t) .main ≡ []
+    by true o f q = absurd (never (sym (λ i. f i || q i) ∙ o))
+    by false o f q = refl
+
+module _ (t date : Bytes) (at : ℕ) (p : Past) (row : List ℕ) (L : Lines) (e : Extent) (ee : e ≡ extentOf (drop at t)) (k : known (docHere (drop at t)) ≡ false)
+    (kind : Kind) (found : Findings) (letter : Letter) (list x : List (List ℕ)) (e-kind : kind ≡ kindOf (docHere (drop at t) .main))
+    (e-found : held x found ≡ keptOf list (brokeIf at kind (bit (is Unknown kind)))) (e-letter : letter ≡ letterBy (eqb (found .rows) 0) false) where
   abbrev N : Turn
-  N = turn date (seenBy t p) (caseIf false (searched taxpayers banks filed states) e)
+  N = turn date (seenBy p row) (caseIf false L (docHere (drop at t)))
 
-  first-finds : findsIn kind 0 (view (sight form [] [] (linesIn 8 []) dsn dcn date facts) form [] 0 0) ≡ findings N
-  unfolding findings seenBy docRecords linesIn
-  first-finds =
-      (λ i. findsIn ((e-kind ∙ ap kindOf e-form) i) 0 (view (sight (e-form i) [] [] [] (e-dsn i) (e-dcn i) date (e-facts i)) (e-form i) [] 0 0))
-      ∙ sym (append-nil (findsIn (kindOf (e .main)) 0 (view (sightOf N) (e .main) [] 0 0)))
+  abbrev first : View
+  first = view (sightOf N) (docHere (drop at t) .main) [] 0 0
 
-  pub listed-other : findsIn kind 0 (view (sight form [] [] (linesIn 8 []) dsn dcn date facts) form [] 0 0) ≡ findings (turn date (seenBy t p) (asked (searched taxpayers banks filed states) (docHere (drop at t))))
-  listed-other = first-finds ∙ ap (λ (c : Case). findings (turn date (seenBy t p) c)) (sym (asked-if false (searched taxpayers banks filed states) (docHere (drop at t)) k))
+  broke-is : brokeIf at kind (bit (is Unknown kind)) ≡ brokeIn at N
+  unfolding brokeIn
+  broke-is =
+      (λ i. brokeIf at (e-kind i) (bit (is Unknown (e-kind i)))) ∙ ap (brokeIf at (kindOf (docHere (drop at t) .main))) (sym (other-set t at first k))
+      ∙ sym (append-nil (brokeIf at (kindOf (docHere (drop at t) .main)) (setIn (kindOf (docHere (drop at t) .main)) first)))
 
-  pub judged-other : _≡_ {A = Judgment} (record { letter = letter; known = false; found = found; facts = facts }) (judgmentOf (turn date (seenBy t p) (asked (searched taxpayers banks filed states) (docHere (drop at t)))))
-  judged-other =
-      judged t date at p false (searched taxpayers banks filed states) form [] facts found letter k e-form e-facts
-      (line-none 9 (ssnOf e)) (e-found ∙ ap counted first-finds) e-letter
+  other-held : held x found ≡ keptOf list (brokeIn at N)
+  other-held = e-found ∙ ap (keptOf list) broke-is
+
+  clean : eqb (found .rows) 0 ≡ empty (findings N)
+  clean = clean-same t date at p row false L e ee k found (held-counted list x (brokeIn at N) found other-held)
+
+  -- an unknown form has one
+  rows-some : is Unknown (kindOf (docHere (drop at t) .main)) ≡ true → eqb (found .rows) 0 ≡ false
+  unfolding counted
+  rows-some u =
+      ap (λ (h : Held). eqb (h .rows) 0) e-found ∙ ap (λ (b : Bool). eqb (min 96 (length {A = Broke} (cond (eqb (bit b) 0) [] (record { place = at; kind = kind; set = bit b } ∷ [])))) 0) (ap (is Unknown) e-kind ∙ u)
+
+  no-field : field L4868 90 [] ≡ []
+  unfolding field entry form4868
+  no-field = refl
+
+  other-letter : letter ≡ letterOf N
+  unfolding letterOf twice seenBy
+  other-letter = e-letter ∙ ap (λ (b : Bool). letterBy b false) clean ∙ by (is Unknown (kindOf (docHere (drop at t) .main))) refl
+    where
+      by : (b : Bool) → is Unknown (kindOf (docHere (drop at t) .main)) ≡ b → letterBy (empty (findings N)) false ≡ letterBy (empty (findings N)) (false || member (ssnOf (docHere (drop at t))) (numbersIn (take (p .n) row)))
+      by true u = some (empty (findings N)) (sym clean ∙ rows-some u)
+        where
+          some : (c : Bool) → c ≡ false → letterBy c false ≡ letterBy c (false || member (ssnOf (docHere (drop at t))) (numbersIn (take (p .n) row)))
+          some true z = absurd (never (sym z))
+          some false z = refl
+      by false u = ap (letterBy (empty (findings N))) (sym (ap (λ (m : Bytes). member (field L4868 90 m) (numbersIn (take (p .n) row))) (no-bytes t at k u) ∙ ap (λ (m : Bytes). member m (numbersIn (take (p .n) row))) no-field ∙ member-none (take (p .n) row)))
+
+  pub other-judged : (record { judgment = record { size = e .size; letter = letter; known = false; found = found; facts = e .facts }; past = p } ≡ judgedOf at (turn date (seenBy p row) (asked L (docHere (drop at t)))) p row)
+      × (row ≡ rowAfter (turn date (seenBy p row) (asked L (docHere (drop at t)))) p row) × (x ≡ listed list (brokeIn at (turn date (seenBy p row) (asked L (docHere (drop at t))))))
+  other-judged = (
+    judged-is t date at p row false L e ee k found letter p row list x other-held other-letter refl refl,
+    row-is t date at p row false L e ee k found letter p row list x other-held other-letter refl refl,
+    list-is t date at p row false L e ee k found letter p row list x other-held other-letter refl refl,
+  )
+
+-- WHAT THE CODE KNOWS OF THE FIRST RECORD
+
+module _ (t : Bytes) (at : ℕ) (e : Extent) (ee : e ≡ extentOf (drop at t)) where
+  pub first-kind : e .first .kind ≡ kindOf (docHere (drop at t) .main)
+  unfolding extentOf
+  first-kind = ap (λ (x : Extent). x .first .kind) ee
+
+  pub known-as : (b c : Bool) → b ≡ is Form (e .first .kind) → b ≡ c → known (docHere (drop at t)) ≡ c
+  known-as b c q r = sym (q ∙ ap (is Form) first-kind) ∙ r
+
+  pub first-part : is Form (kindOf (docHere (drop at t) .main)) ≡ true → (at + e .first .size ≤ length t) × (take (at + e .first .size - at) (drop at t) ≡ docHere (drop at t) .main)
+  unfolding extentOf
+  first-part k =
+      let o : opens (kindOf (docHere (drop at t) .main)) ≡ true = ap (λ (c : Bool). c || is Unknown (kindOf (docHere (drop at t) .main))) k in
+      let n : e .first .size ≡ length (docHere (drop at t) .main) = ap (λ (x : Extent). x .first .size) ee in
+      (omega (arith, n, doc-fits t at o .0), as-part t at (e .first .size) ∙ ap (λ (m : ℕ). take m (drop at t)) n ∙ main-here t at o)

@@ -1,28 +1,29 @@
 -- What the look-ups find on any bytes, and the judgment of a document in its turn. Assumes nothing.
-use Prim.Native.Nat.{ℕ}
-use mathlib.Core.Bool.{cond, not, _||_}
+use Prim.Native.Nat.{ℕ, _+_}
+use mathlib.Core.Bool.{cond}
 use mathlib.Core.List.{List, [], _∷_, _++_, map}
 use lib.Dec.{eqb}
 use lib.ListN.{length}
 use Rattle.paper.specs.declared.Facts.{Facts}
-use Rattle.paper.specs.declared.Found.{Found}
 use Rattle.paper.specs.declared.Judgment.{Judgment}
 use Rattle.paper.specs.declared.Kind.{Kind}
-use Rattle.paper.specs.declared.Kind.the-variants.{Form, Payment}
+use Rattle.paper.specs.declared.Kind.the-variants.{Payment, Auth}
 use Rattle.paper.specs.declared.Layout.the-variants.{L4868, LPayment}
-use Rattle.paper.specs.declared.Letter.{Letter}
-use Rattle.paper.specs.Bytes.{Bytes, those, empty, member}
+use Rattle.paper.specs.Bytes.{Bytes, bit}
 use Rattle.paper.specs.Layouts.{field}
 use Rattle.paper.specs.Pack.{Lines, linesIn}
-use Rattle.paper.specs.Walk.{is, kindOf, own}
-use Rattle.paper.specs.Conditions.{Sight, View, sight, view, factsOf, holds, rulesOf}
-use Rattle.paper.specs.Judge.{Item, Turn, known, findsIn, findsFrom, findings, letterBy, letterOf}
+use Rattle.paper.specs.Walk.{is, kindOf, Doc}
+use Rattle.paper.specs.Conditions.{Sight, View, sight, view, ofKind, factsOf, holds, rulesOf}
+use Rattle.paper.specs.Judge.{Item, Turn, known, letterOf, sightOf}
+use Rattle.words.specs.Sets.{bitsBy}
+use Rattle.words.specs.Past.{earlier}
 use Rattle.lookup.specs.Find.{lineIn, rowsIn}
-use Rattle.rules.specs.declared.Hits.{Hits}
-use Rattle.rules.specs.Hits.{hitsOf}
+use Rattle.walk.specs.Parts.{sizes}
+use Rattle.rules.specs.declared.Before.{Before}
 use Rattle.judge.specs.declared.Past.{Past}
-use Rattle.judge.specs.Kept.{counted}
-use Rattle.judge.specs.Seen.{seenBy}
+use Rattle.judge.specs.declared.Judged.{Judged}
+use Rattle.judge.specs.Kept.{Broke, brokeIf, counted}
+use Rattle.judge.specs.Seen.{pastAfter}
 
 -- a line, or none
 abbrev pub oneLine : Bytes → List Bytes
@@ -46,34 +47,48 @@ bankFor banks k r = cond (is Payment k) (lineIn 10 (field LPayment 30 r) banks) 
 abbrev pub itemIn : Bytes → Bytes → Item
 itemIn banks r = record { bytes = r; bank = bankFor banks (kindOf r) r }
 
--- those of the records that go on with the document
-abbrev pub itemsIn : Bytes → List Bytes → List Item
-itemsIn banks rs = map (itemIn banks) (own rs)
+-- the set of the rules that a record breaks
+abbrev pub setIn : Kind → View → ℕ
+setIn k v = bitsBy (holds k v) (rulesOf k)
 
--- the broken rules of a record
-abbrev pub hitsIn : Kind → View → Hits
-hitsIn k v = hitsOf (those (holds k v) (rulesOf k))
-
--- the findings of a 4868 document: of the form, and of the records that go on with it
-abbrev pub formFinds : Sight → Bytes → Bytes → List Bytes → List Found
-formFinds s form banks rs = findsIn Form 0 (view s form [] 0 0) ++ findsFrom s (length form) 0 0 (itemsIn banks rs)
+-- the records that break a rule, from a place on; so many payments and authentications stand before
+abbrev pub brokeFrom : Sight → ℕ → ℕ → ℕ → List Item → List Broke
+brokeFrom s place pays aths [] = []
+brokeFrom s place pays aths (i ∷ is) =
+    brokeIf place (kindOf (i .bytes)) (setIn (kindOf (i .bytes)) (view s (i .bytes) (i .bank) pays aths))
+    ++ brokeFrom s (place + length (i .bytes)) (pays + bit (ofKind Payment (i .bytes))) (aths + bit (ofKind Auth (i .bytes))) is
 
 -- what the rules of a 4868 document look at
-unfoldable pub sightIn : Bytes → Bytes → Bytes → Bytes → Bytes → Bytes → Facts → Sight
-sightIn form taxpayers states dsn dcn date whole =
+unfoldable pub sightIn : Bytes → Bytes → Bytes → Bytes → Past → Facts → Sight
+sightIn form taxpayers states date p whole =
     sight form (lineIn 33 (field L4868 90 form) taxpayers) (lineIn 33 (field L4868 100 form) taxpayers)
-    (linesIn 8 (rowsIn 8 (field L4868 60 form) states)) dsn dcn date whole
+    (linesIn 8 (rowsIn 8 (field L4868 60 form) states)) (earlier 16 (p .dsn)) (earlier 14 (p .dcn)) date whole
 
--- R for a finding, D for a number that was filed or accepted before
-unfoldable pub letterFor : Bytes → ℕ → Bytes → Bytes → Past → Letter
-letterFor t all filed form p =
-    letterBy (eqb all 0) (not (empty (lineIn 9 (field L4868 90 form) filed)) || member (field L4868 90 form) (seenBy t p .accepted))
+-- the records of a 4868 document at a place that break a rule
+abbrev pub formBroke : ℕ → Doc → Bytes → Bytes → Bytes → Bytes → Past → Facts → List Broke
+formBroke at d taxpayers banks states date p whole =
+    brokeFrom (sightIn (d .main) taxpayers states date p whole) at 0 0 (record { bytes = d .main; bank = [] } ∷ map (itemIn banks) (d .others))
 
--- tied to the paper by `judged-letter`, `judged-facts` and `judged-keeps` of judge/Ties
-unfoldable pub judgmentOf : Turn → Judgment
-judgmentOf t = record {
+-- after a record of this kind
+abbrev pub counts : Before → Kind → Before
+counts b k = record { pays = b .pays + bit (is Payment k); aths = b .aths + bit (is Auth k) }
+
+-- of a document at a place
+-- tied to the paper by `rows-found` of judge/Found
+unfoldable pub brokeIn : ℕ → Turn → List Broke
+brokeIn at t = brokeFrom (sightOf t) at 0 0 (t .subject .items)
+
+-- tied to the paper by `total-found`, `auth-found` and `empty-found` of judge/Found
+unfoldable pub judgmentOf : ℕ → Turn → Judgment
+judgmentOf at t = record {
+  size = sizes (t .subject .doc .main ∷ t .subject .doc .others);
   letter = letterOf t;
   known = known (t .subject .doc);
-  found = counted (findings t);
+  found = counted (brokeIn at t);
   facts = factsOf (t .subject .doc .main ∷ t .subject .doc .others);
 }
+
+-- and what it leaves
+-- tied to the paper by `leaves` of judge/Seen
+abbrev pub judgedOf : ℕ → Turn → Past → List ℕ → Judged
+judgedOf at t p row = record { judgment = judgmentOf at t; past = pastAfter t p row }

@@ -1,64 +1,50 @@
--- What a document sees of the earlier ones, as places in the transmission, and what it leaves for the later ones. Assumes nothing.
-use Prim.Native.Nat.{ℕ, _+_}
+-- What a document sees of the earlier ones, as numbers, and what it leaves for the later ones. Assumes nothing.
+use Prim.Native.Nat.{ℕ, _+_, _%_}
 use mathlib.Core.Bool.{cond, _&&_}
-use mathlib.Core.List.{List, [], map}
-use lib.Dec.{eqb, ltb}
-use lib.ListN.{take, drop, set, replicate}
+use mathlib.Core.List.{List, map}
+use lib.Dec.{ltb}
+use lib.ListN.{length, take, set}
 use Rattle.paper.specs.declared.Layout.the-variants.{L4868}
 use Rattle.paper.specs.declared.Letter.{Letter}
-use Rattle.paper.specs.Bytes.{Bytes, before, part, digits}
-use Rattle.paper.specs.Layouts.{entry, field}
-use Rattle.paper.specs.Judge.{Before, known, isA}
-use Rattle.walk.specs.Parts.{docHere}
+use Rattle.paper.specs.Bytes.{Bytes, those, digits, number, written}
+use Rattle.paper.specs.Layouts.{field}
+use Rattle.paper.specs.Walk.{Doc}
+use Rattle.paper.specs.Judge.{Before, known, isA, Turn, letterOf}
+use Rattle.words.specs.Past.{earlier}
 use Rattle.judge.specs.declared.Past.{Past}
-use Rattle.judge.specs.declared.Standing.{Standing}
-use Rattle.judge.specs.declared.Standing.the-variants.{NoDigits, Above, NotAbove}
 
--- width bytes at a place; at place 0 none
-unfoldable pub atPlace : ℕ → ℕ → Bytes → Bytes
-atPlace width place t = cond (eqb place 0) [] (part place width t)
-
--- the primary numbers at these places
-abbrev pub numbersAt : Bytes → List ℕ → List Bytes
-numbersAt t places = map (λ a. part a 9 t) places
+-- the primary numbers of a row; one that nine digits can't write is none
+abbrev pub numbersIn : List ℕ → List Bytes
+numbersIn row = map (written 9) (those (λ (x : ℕ). ltb x 1000000000) row)
 
 -- tied to the paper by `leaves` and `starts-empty` of judge/Seen
-unfoldable pub seenBy : Bytes → Past → Before
-seenBy t p = record { dsn = atPlace 16 (p .dsn) t; dcn = atPlace 14 (p .dcn) t; accepted = numbersAt t (take (p .n) (p .list)) }
+unfoldable pub seenBy : Past → List ℕ → Before
+seenBy p row = record { dsn = earlier 16 (p .dsn); dcn = earlier 14 (p .dcn); accepted = numbersIn (take (p .n) row) }
 
 -- tied to the paper by `starts-empty` of judge/Seen
 abbrev pub noPast : Past
-noPast = record { dsn = 0; dcn = 0; list = replicate 94 0; n = 0 }
+noPast = record { dsn = 0; dcn = 0; n = 0 }
 
--- where a field of the 4868 at a place stands
-abbrev pub placeOf : ℕ → ℕ → ℕ
-placeOf at n = at + entry L4868 n .start
+-- the nearest number that is digits
+abbrev pub numberAfter : Bytes → ℕ → ℕ
+numberAfter f n = cond (digits f) (number f + 1) n
 
--- the number of a document that got A, where there is room
-unfoldable pub lettered : ℕ → Letter → Past → Past
-lettered at l p =
-    cond (isA l && ltb (p .n) 94) (record { dsn = p .dsn; dcn = p .dcn; list = set (p .list) (p .n) (placeOf at 90); n = p .n + 1 }) p
-
--- how a number stands to the nearest earlier one
-unfoldable pub standingOf : Bytes → Bytes → Standing
-standingOf f earlier = cond (digits f) (cond (before earlier f) Above NotAbove) NoDigits
-
--- where the nearest number then stands
-abbrev pub placeAfter : Standing → ℕ → ℕ → ℕ
-placeAfter NoDigits place earlier = earlier
-placeAfter Above place earlier = place
-placeAfter NotAbove place earlier = place
-
--- 0007 and 0008 where they are digits
-unfoldable pub numbered : ℕ → Bytes → Past → Past
-numbered at form p = record {
-  dsn = cond (digits (field L4868 7 form)) (placeOf at 7) (p .dsn);
-  dcn = cond (digits (field L4868 8 form)) (placeOf at 8) (p .dcn);
-  list = p .list;
-  n = p .n;
+-- what a form leaves, with its letter: its number where it got A and there is room
+unfoldable pub nextPast : Bytes → Letter → Past → List ℕ → Past
+nextPast form l p row = record {
+  dsn = numberAfter (field L4868 7 form) (p .dsn);
+  dcn = numberAfter (field L4868 8 form) (p .dcn);
+  n = cond (isA l && ltb (p .n) (length row)) (p .n + 1) (p .n);
 }
 
--- what the document at a place leaves, with its letter; one of an unknown form is passed over
+unfoldable pub nextRow : Bytes → Letter → Past → List ℕ → List ℕ
+nextRow form l p row = cond (isA l && ltb (p .n) (length row)) (set row (p .n) (number (field L4868 90 form) % 4294967296)) row
+
+-- after a document's turn; one of an unknown form is passed over
 -- tied to the paper by `leaves` of judge/Seen
-unfoldable pub nextPast : Bytes → ℕ → Letter → Past → Past
-nextPast t at l p = cond (known (docHere (drop at t))) (numbered at (docHere (drop at t) .main) (lettered at l p)) p
+abbrev pub pastAfter : Turn → Past → List ℕ → Past
+pastAfter t p row = cond (known (t .subject .doc)) (nextPast (t .subject .doc .main) (letterOf t) p row) p
+
+-- tied to the paper by `leaves` of judge/Seen
+abbrev pub rowAfter : Turn → Past → List ℕ → List ℕ
+rowAfter t p row = cond (known (t .subject .doc)) (nextRow (t .subject .doc .main) (letterOf t) p row) row

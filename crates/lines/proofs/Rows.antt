@@ -2,19 +2,20 @@
 -- Assumes nothing.
 use mathlib.Core.Path.{_≡_, refl, sym, ap, _∙_}
 use mathlib.Core.Bool.{Bool, true, false, _&&_, _||_, not, cond}
-use mathlib.Core.List.{List, [], _∷_}
+use mathlib.Core.List.{[], _∷_}
 use Prim.Native.Nat.{ℕ, zero, suc, _+_, _-_, _*_, _/_, _%_, _≤_, _<_}
 use native.Mathlib.Nat.{suc-mul, not-suc-le-zero, div-add-mod'}
 use native.Mathlib.Numerals.{sub-one}
 use native.Mathlib.Omega.{arith}
-use lib.Dec.{eqb}
+use lib.Dec.{eqb, ltb}
 use lib.ListN.{length, take, drop, length-drop}
-use lib.Seq.{drop-drop, take-take}
+use lib.Seq.{drop-drop, take-all, length-take-le}
 use borrow.Author.Tests.{eq-eqb, ne-eqb, not-true, not-false}
-use Rattle.paper.specs.Bytes.{Bytes, every, any, before, isDigit, digits}
-use Rattle.paper.specs.Pack.{widthOf, riseOf, taxpayerLine, bankLine, stateLine, goodLine, rows, linesIn, rises, goodBody}
+use Rattle.paper.specs.Bytes.{Bytes, any, digits, part}
+use Rattle.paper.specs.Pack.{widthOf, riseOf, taxpayerLine, bankLine, stateLine, goodLine, rows, linesIn, goodBody}
+use Rattle.text.specs.Words.{high}
 use Rattle.text.proofs.Laws.{piece-whole}
-use Rattle.lines.specs.Body.{goodRows}
+use Rattle.lines.specs.Body.{goodRows, rankOf, climbs}
 
 -- so many bytes less for one line less
 pub row-less : (m w : ℕ) → 0 < m → m * w ≡ (m - 1) * w + w
@@ -30,6 +31,11 @@ rows-next (suc m) w at s h =
 pub no-rows : (m w : ℕ) (s : Bytes) → m ≤ 0 → rows m w s ≡ []
 no-rows zero w s h = refl
 no-rows (suc m) w s h = absurd (not-suc-le-zero h)
+
+-- the line `&s[at..at + w]` is w bytes wide
+pub line-wide : (w m at : ℕ) (s : Bytes) → at + m * w ≤ length s → 0 < m → length (take (at + w - at) (drop at s)) ≡ w
+line-wide w m at s h l =
+    ap length (piece-whole s at w) ∙ length-take-le w (drop at s) (omega (arith, row-less m w l, length-drop at s))
 
 -- no line is empty
 pub width-some : (k : ℕ) → 0 < widthOf k
@@ -61,66 +67,25 @@ any-no p w m s v e h = sym (e ∙ ap (any p) (no-rows m w s h))
 
 pub ruleset any-line = (any-again, any-yes, any-no)
 
--- A loop that tests each line and returns false at the first that fails; v, r and the line as above
-module _ (p : Bytes → Bool) (w m at : ℕ) (s : Bytes) (v r : Bool) (e : v ≡ every p (rows m w (drop at s))) (h : 0 < m) (q : r ≡ p (take (at + w - at) (drop at s))) where
-  every-split : v ≡ (r && every p (rows (m - 1) w (drop (at + w) s)))
-  every-split =
-      e ∙ ap (every p) (rows-next m w at s h)
-      ∙ ap (λ (b : Bool). b && every p (rows (m - 1) w (drop (at + w) s))) (ap p (sym (piece-whole s at w)) ∙ sym q)
+-- A loop that holds each line's number against the one before, x; y is the number of the line `&s[at..at + w]`, r the result at the two
+module _ (k w m at x y : ℕ) (s : Bytes) (v r : Bool) (e : v ≡ climbs k x (rows m w (drop at s))) (h : 0 < m) (q : y ≡ rankOf k (take (at + w - at) (drop at s))) (t : r ≡ ltb x y) where
+  climb-split : v ≡ (r && climbs k y (rows (m - 1) w (drop (at + w) s)))
+  climb-split =
+      let line : rankOf k (take w (drop at s)) ≡ y = ap (rankOf k) (sym (piece-whole s at w)) ∙ sym q in
+      e ∙ ap (climbs k x) (rows-next m w at s h)
+      ∙ (λ i. ltb x (line i) && climbs k (line i) (rows (m - 1) w (drop (at + w) s)))
+      ∙ ap (λ (b : Bool). b && climbs k y (rows (m - 1) w (drop (at + w) s))) (sym t)
 
-  pub every-again : not r ≡ false → v ≡ every p (rows (m - 1) w (drop (at + w) s))
-  every-again t = every-split ∙ ap (λ (b : Bool). b && every p (rows (m - 1) w (drop (at + w) s))) (not-false r t)
+  pub climb-again : not r ≡ false → v ≡ climbs k y (rows (m - 1) w (drop (at + w) s))
+  climb-again n = climb-split ∙ ap (λ (b : Bool). b && climbs k y (rows (m - 1) w (drop (at + w) s))) (not-false r n)
 
-  pub every-no : not r ≡ true → false ≡ v
-  every-no t = sym (every-split ∙ ap (λ (b : Bool). b && every p (rows (m - 1) w (drop (at + w) s))) (not-true r t))
+  pub climb-no : not r ≡ true → false ≡ v
+  climb-no n = sym (climb-split ∙ ap (λ (b : Bool). b && climbs k y (rows (m - 1) w (drop (at + w) s))) (not-true r n))
 
-pub every-yes : (p : Bytes → Bool) (w m : ℕ) (s : Bytes) (v : Bool) → v ≡ every p (rows m w s) → m ≤ 0 → true ≡ v
-every-yes p w m s v e h = sym (e ∙ ap (every p) (no-rows m w s h))
+pub climb-yes : (k w m x : ℕ) (s : Bytes) (v : Bool) → v ≡ climbs k x (rows m w s) → m ≤ 0 → true ≡ v
+climb-yes k w m x s v e h = sym (e ∙ ap (climbs k x) (no-rows m w s h))
 
-pub ruleset every-line = (every-again, every-no, every-yes)
-
--- A loop that holds the key of each line against the next one's; r is the result at the keys `&s[at..at + k]` and `&s[at + w..at + w + k]`
-module _ (k w m at : ℕ) (s : Bytes) (v r : Bool) (e : v ≡ rises k (rows m w (drop at s))) (h : 1 < m) (g : k ≤ w)
-    (q : r ≡ before (take (at + k - at) (drop at s)) (take (at + w + k - (at + w)) (drop (at + w) s))) where
-  key-of : (a : ℕ) → take k (take w (drop a s)) ≡ take (a + k - a) (drop a s)
-  key-of a = take-take k w (drop a s) g ∙ sym (piece-whole s a k)
-
-  rise-split : v ≡ (r && rises k (rows (m - 1) w (drop (at + w) s)))
-  rise-split =
-      let two : rows (m - 1) w (drop (at + w) s) ≡ take w (drop (at + w) s) ∷ rows (m - 1 - 1) w (drop (at + w + w) s) = rows-next (m - 1) w (at + w) s (omega arith) in
-      e ∙ ap (rises k) (rows-next m w at s (omega arith) ∙ ap (λ (ls : List Bytes). take w (drop at s) ∷ ls) two)
-      ∙ (λ i. before (key-of at i) (key-of (at + w) i) && rises k (sym two i))
-      ∙ ap (λ (b : Bool). b && rises k (rows (m - 1) w (drop (at + w) s))) (sym q)
-
-  pub rise-again : not r ≡ false → v ≡ rises k (rows (m - 1) w (drop (at + w) s))
-  rise-again t = rise-split ∙ ap (λ (b : Bool). b && rises k (rows (m - 1) w (drop (at + w) s))) (not-false r t)
-
-  pub rise-no : not r ≡ true → false ≡ v
-  rise-no t = sym (rise-split ∙ ap (λ (b : Bool). b && rises k (rows (m - 1) w (drop (at + w) s))) (not-true r t))
-
-pub rise-yes : (k w m : ℕ) (s : Bytes) (v : Bool) → v ≡ rises k (rows m w s) → m ≤ 1 → true ≡ v
-rise-yes k w zero s v e h = sym e
-rise-yes k w (suc zero) s v e h = sym e
-rise-yes k w (suc (suc m)) s v e h = absurd (omega arith)
-
-pub ruleset rise-line = (rise-again, rise-no, rise-yes)
-
--- lines of digits, as one text of digits
-and-assoc : (a b c : Bool) → (a && (b && c)) ≡ ((a && b) && c)
-and-assoc true b c = refl
-and-assoc false b c = refl
-
-digits-split : (w : ℕ) (s : Bytes) → digits s ≡ (digits (take w s) && digits (drop w s))
-digits-split zero s = refl
-digits-split (suc w) [] = refl
-digits-split (suc w) (x ∷ s) = ap (λ (b : Bool). isDigit x && b) (digits-split w s) ∙ and-assoc (isDigit x) (digits (take w s)) (digits (drop w s))
-
-pub digits-rows : (n w : ℕ) (s : Bytes) → n * w ≡ length s → digits s ≡ every digits (rows n w s)
-digits-rows zero w [] e = refl
-digits-rows zero w (x ∷ s) e = absurd (omega arith)
-digits-rows (suc n) w s e =
-    let less : suc n * w ≡ n * w + w = suc-mul n w in
-    digits-split w s ∙ ap (λ (b : Bool). digits (take w s) && b) (digits-rows n w (drop w s) (omega (arith, length-drop w s)))
+pub ruleset climb-line = (climb-again, climb-no, climb-yes)
 
 -- a kind, with the width of its lines, the width of what ascends, and the test on a line
 pub record Kind (k w r : ℕ) (p : Bytes → Bool) : Type 0 where
@@ -154,22 +119,26 @@ kind-5 k ((((_, a), b), c), d) =
       line = λ i l. h l i;
     }
 
--- the tests on the n lines of a block
-module _ (k w r : ℕ) (p : Bytes → Bool) (of : Kind k w r p) (n : ℕ) (s : Bytes) (f : n * widthOf k ≡ length s) where
-  filled : n * w ≡ length s
-  filled = ap (λ (a : ℕ). n * a) (sym (of .width)) ∙ f
+-- the number of a line of the kind; x is the test's result at `&l[0..w]`, z the number of `&l[0..r]` or 0
+module _ (k w r : ℕ) (p : Bytes → Bool) (of : Kind k w r p) (l : Bytes) (f : length l ≡ widthOf k) where
+  pub long-enough : w ≤ length l
+  long-enough = omega (arith, f, of .width)
 
-  pub rows-fit : n * w ≤ length s
-  rows-fit = omega (arith, filled)
+  module _ (x : Bool) (z : ℕ) (e : x ≡ p (take w l)) where
+    whole : take w l ≡ l
+    whole = take-all w l (omega (arith, f, of .width))
 
-  pub rows-good : (x y : Bool) → x ≡ every p (rows n w s) → y ≡ rises r (rows n w s) → (x && y) ≡ goodRows k (rows n (widthOf k) s)
-  rows-good x y e g = (λ i. e i && g i) ∙ (λ i. every (sym (of .line) i) (rows n (sym (of .width) i) s) && rises (sym (of .rise) i) (rows n (sym (of .width) i) s))
+    pub rank-told : z ≡ cond x (high 16 (take r l)) 0 → z ≡ rankOf k l
+    unfolding rankOf
+    rank-told q =
+        let good : x ≡ goodLine k l = e ∙ ap p whole ∙ (λ i. sym (of .line) i l) in
+        q ∙ (λ i. cond (good i) (high 16 (take (sym (of .rise) i) l)) 0)
 
-pub digits-good : (k w r : ℕ) → Kind k w r digits → (n : ℕ) (s : Bytes) → n * widthOf k ≡ length s
-    → (x y : Bool) → x ≡ digits s → y ≡ rises r (rows n w s) → (x && y) ≡ goodRows k (rows n (widthOf k) s)
-digits-good k w r of n s f x y e g = rows-good k w r digits of n s f x y (e ∙ digits-rows n w s (filled k w r digits of n s f)) g
+    -- what ascends is a part of the line
+    pub rank-cut : (t : Bytes) → t ≡ part 0 r (take w l) → z ≡ cond x (high 16 t) 0 → z ≡ rankOf k l
+    rank-cut t d q = rank-told (q ∙ ap (λ (u : Bytes). cond x (high 16 u) 0) (d ∙ ap (take r) whole))
 
-pub ruleset kinds = (kind-1, kind-2, kind-3, kind-4, rows-fit, rows-good, digits-good)
+pub ruleset kinds = (kind-1, kind-2, kind-3, kind-4, long-enough, rank-told, rank-cut)
 
 -- the tests on a block's lines; w is the width
 module _ (k w : ℕ) (b : Bytes) (e : w ≡ widthOf k) where
@@ -177,9 +146,19 @@ module _ (k w : ℕ) (b : Bytes) (e : w ≡ widthOf k) where
   unfolding goodBody
   body-odd h = simp (← e, ne-eqb (length b % w) 0 h)
 
-  pub rows-fill : length b % w ≡ 0 → length b / w * widthOf k ≡ length b
-  rows-fill h = rw (← e) (omega (arith, div-add-mod' (length b) w))
+  pub rows-fill : length b % w ≡ 0 → length b / w * w ≡ length b
+  rows-fill h = omega (arith, div-add-mod' (length b) w)
 
-  pub body-even : (r : Bool) → length b % w ≡ 0 → r ≡ goodRows k (rows (length b / w) (widthOf k) b) → r ≡ goodBody k b
+  pub body-even : (r : Bool) → length b % w ≡ 0 → r ≡ goodRows k (rows (length b / w) w b) → r ≡ goodBody k b
   unfolding goodBody linesIn
   body-even r h q = q ∙ simp (← e, eq-eqb (length b % w) 0 h)
+
+-- three tests in a row; r, q and t are the results at the parts
+pub told-1 : (r x y z : Bool) → r ≡ x → not r ≡ true → false ≡ (x && y && z)
+told-1 r x y z e n = ap (λ (b : Bool). b && y && z) (sym (not-true r n) ∙ e)
+
+pub told-2 : (r x q y z : Bool) → r ≡ x → not r ≡ false → q ≡ y → not q ≡ true → false ≡ (x && y && z)
+told-2 r x q y z e n f m = (λ i. (sym (not-false r n) ∙ e) i && (sym (not-true q m) ∙ f) i && z)
+
+pub told-3 : (r x q y t z : Bool) → r ≡ x → not r ≡ false → q ≡ y → not q ≡ false → t ≡ z → t ≡ (x && y && z)
+told-3 r x q y t z e n f m g = g ∙ (λ i. (sym (not-false r n) ∙ e) i && (sym (not-false q m) ∙ f) i && z)

@@ -1,4 +1,5 @@
-pub mod Order
 pub mod Bisect
-pub mod Runs
 pub mod Laws
+pub mod Nines
+pub mod Order
+pub mod Runs

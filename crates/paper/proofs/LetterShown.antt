@@ -10,10 +10,10 @@ use Rattle.paper.specs.declared.Layout.the-variants.{LKey}
 use Rattle.paper.specs.declared.Letter.{Letter}
 use Rattle.paper.specs.declared.Letter.the-variants.{A, R, D}
 use Rattle.paper.specs.declared.Verdict.{Verdict}
-use Rattle.paper.specs.Bytes.{Bytes, bytes, same}
+use Rattle.paper.specs.Bytes.{Bytes, bytes, same, laid}
 use Rattle.paper.specs.Layouts.{ackKey, entry, field}
 use Rattle.paper.specs.Judge.{Turn, letterOf, isA}
-use Rattle.paper.specs.File.{laid, recordOf, keyRecord, verdictByte, letterByte, setBy, setOf}
+use Rattle.paper.specs.File.{recordOf, keyRecord, verdictByte, letterByte, setBy, setOf}
 use Rattle.paper.proofs.Laws.{take-next}
 use Rattle.paper.proofs.RecordSizes.{length-laid, length-key}
 

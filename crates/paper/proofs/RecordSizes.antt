@@ -6,9 +6,9 @@ use lib.ListN.{length}
 use lib.Seq.{length-sets}
 use Rattle.paper.specs.declared.Layout.{Layout}
 use Rattle.paper.specs.declared.Verdict.{Verdict}
-use Rattle.paper.specs.Bytes.{Bytes}
+use Rattle.paper.specs.Bytes.{Bytes, laid}
 use Rattle.paper.specs.Layouts.{entry}
-use Rattle.paper.specs.File.{laid, fields, recordOf, keyRecord, errorRecord, recapRecord}
+use Rattle.paper.specs.File.{fields, recordOf, keyRecord, errorRecord, recapRecord}
 
 pub length-laid : (r : Bytes) (at : ℕ) (t : Bytes) → length (laid r at t) ≡ length r
 unfolding laid

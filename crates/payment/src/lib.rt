@@ -1,9 +1,15 @@
 // The rules of a payment: which of them a record breaks.
 use paper::Layout;
 ghost use mathlib.Core.Path.{_≡_};
+ghost use mathlib.Core.Bool.{cond, _&&_};
+ghost use mathlib.Core.List.{[], _∷_};
+ghost use lib.Dec.{eqb};
+ghost use lib.ListN.{length, getD};
 ghost use Rattle.paper.specs.declared.Layout.the-variants.{L4868, LPayment};
 ghost use Rattle.paper.specs.Layouts.{field};
-ghost use Rattle.paper.specs.Conditions.{runs, wrongPayment, otherSpouse, wrongPayer, wrongBank, payment0396, taxType, payment0010, paymentHolds};
+ghost use Rattle.paper.specs.Conditions.{runs, wrongPayment, otherSpouse, wrongBank, taxType, paymentRules};
+ghost use Rattle.words.specs.Sets.{bitsOn, bitsBy};
+ghost use Rattle.payment.specs.Breaks.{breaks};
 
 fn field_of(n: u32, own: &[u8]) -> &[u8]
     ensures { λ p. ⌜ now p ≡ field LPayment n (now (own .entry)) ⌝ }
@@ -42,34 +48,11 @@ fn other_spouse(f: &[u8], spouse: &[u8]) -> bool
     !text::blank(f) & !text::is_same(f, spouse)
 }
 
-// 0395, by field.
-fn wrong_payer(n: u32, own: &[u8], form: &[u8]) -> bool
-    ensures { λ r. ⌜ r ≡ wrongPayer n (now (own .entry)) (now (form .entry)) ⌝ }
-{
-    match n {
-        10 => !text::is_same(field_of(10, own), of_form(90, form)),
-        20 => other_spouse(field_of(20, own), of_form(100, form)),
-        _ => false,
-    }
-}
-
 // 0396 at 0030: not digits, first two not 01-12 or 21-32, or no Y line.
 fn wrong_bank(f: &[u8], bank: &[u8]) -> bool
     ensures { λ r. ⌜ r ≡ wrongBank (now (f .entry)) (now (bank .entry)) ⌝ }
 {
     !field::routing(f) | !text::is_same(text::piece(bank, 9, 1), b"Y")
-}
-
-// 0396, by field.
-fn holds_0396(n: u32, own: &[u8], bank: &[u8]) -> bool
-    ensures { λ r. ⌜ r ≡ payment0396 n (now (own .entry)) (now (bank .entry)) ⌝ }
-{
-    match n {
-        30 => wrong_bank(field_of(30, own), bank),
-        40 => !field::account(field_of(40, own)),
-        50 => !words::one_of(b"12", field_of(50, own)),
-        _ => false,
-    }
 }
 
 fn tax_type(f: &[u8]) -> bool
@@ -78,32 +61,67 @@ fn tax_type(f: &[u8]) -> bool
     text::is_same(f, b"4868E") | text::is_same(f, b"0709P") | text::is_same(f, b"0709S")
 }
 
-// 0010, by field.
-fn holds_0010(n: u32, own: &[u8]) -> bool
-    ensures { λ r. ⌜ r ≡ payment0010 n (now (own .entry)) ⌝ }
+// The rules on the head, 0010 and 0020, before later ones.
+fn of_payer(form: &[u8], own: &[u8], before: usize, later: u64) -> u64
+    ensures { λ r. ⌜ r ≡ bitsOn (breaks (now (form .entry)) (now (own .entry)) [] before) (44 ∷ 45 ∷ 30004 ∷ 100010 ∷ 100395 ∷ 200010 ∷ 200395 ∷ []) later ⌝ }
 {
-    match n {
-        10 => !text::digits(field_of(10, own)),
-        20 => words::not_digits(field_of(20, own)),
-        60 => words::not_positive(field_of(60, own)),
-        70 => !tax_type(field_of(70, own)),
-        90 => words::not_digits(field_of(90, own)),
-        _ => false,
-    }
+    let set = words::and_rule(other_spouse(field_of(20, own), of_form(100, form)), later);
+    let set = words::and_rule(words::not_digits(field_of(20, own)), set);
+    let set = words::and_rule(!text::is_same(field_of(10, own), of_form(90, form)), set);
+    let set = words::and_rule(!text::digits(field_of(10, own)), set);
+    let set = words::and_rule(
+        words::other_number(field_of(3, own), of_form(90, form)),
+        set,
+    );
+    let set = words::and_rule(wrong_payment(own, before), set);
+    words::and_rule(words::wrong_page(field_of(2, own)), set)
 }
 
-// Whether the rule of this field and code is broken, after so many payments of the document; bank is the line of 0030.
-pub fn holds(n: u32, code: u32, form: &[u8], own: &[u8], bank: &[u8], before: usize) -> bool
-    ensures { λ r. ⌜ r ≡ paymentHolds n code (now (form .entry)) (now (own .entry)) (now (bank .entry)) before ⌝ }
+// The rules on 0030 to 0090, before later ones.
+fn of_money(own: &[u8], bank: &[u8], later: u64) -> u64
+    ensures { λ r. ⌜ r ≡ bitsOn (breaks [] (now (own .entry)) (now (bank .entry)) 0) (300396 ∷ 400396 ∷ 500396 ∷ 600010 ∷ 700010 ∷ 800397 ∷ 900010 ∷ []) later ⌝ }
 {
-    match code {
-        4 => words::other_number(field_of(3, own), of_form(90, form)),
-        10 => holds_0010(n, own),
-        44 => words::wrong_page(field_of(2, own)),
-        45 => wrong_payment(own, before),
-        395 => wrong_payer(n, own, form),
-        396 => holds_0396(n, own, bank),
-        397 => words::wrong_pay_date(field_of(80, own)),
-        _ => false,
+    let set = words::and_rule(words::not_digits(field_of(90, own)), later);
+    let set = words::and_rule(words::wrong_pay_date(field_of(80, own)), set);
+    let set = words::and_rule(!tax_type(field_of(70, own)), set);
+    let set = words::and_rule(words::not_positive(field_of(60, own)), set);
+    let set = words::and_rule(!words::one_of(b"12", field_of(50, own)), set);
+    let set = words::and_rule(!field::account(field_of(40, own)), set);
+    words::and_rule(wrong_bank(field_of(30, own), bank), set)
+}
+
+// The set of the rules that a payment breaks, after so many payments of the document; bank is the line of 0030.
+pub fn broken(form: &[u8], own: &[u8], bank: &[u8], before: usize) -> u64
+    ensures { λ r. ⌜ r ≡ cond (eqb (length (now (form .entry))) 384 && eqb (length (now (own .entry))) 123) (bitsBy (breaks (now (form .entry)) (now (own .entry)) (now (bank .entry)) before) paymentRules) 0 ⌝ }
+{
+    if form.len() != 384 {
+        return 0;
+    }
+    if own.len() != 123 {
+        return 0;
+    }
+    of_payer(form, own, before, of_money(own, bank, 0))
+}
+
+// The rule that has this place in the set.
+pub fn rule_at(i: usize) -> u32
+    ensures { λ r. ⌜ r ≡ getD paymentRules i 0 ⌝ }
+{
+    match i {
+        0 => 44,
+        1 => 45,
+        2 => 30004,
+        3 => 100010,
+        4 => 100395,
+        5 => 200010,
+        6 => 200395,
+        7 => 300396,
+        8 => 400396,
+        9 => 500396,
+        10 => 600010,
+        11 => 700010,
+        12 => 800397,
+        13 => 900010,
+        _ => 0,
     }
 }

@@ -1,42 +1,116 @@
--- The loop that lays a text into a record, and texts laid one after the other. Assumes nothing.
+-- A record written at a place of an output. Assumes nothing.
 use mathlib.Core.Path.{_≡_, refl, sym, ap, _∙_}
-use mathlib.Core.List.{List, [], _∷_}
-use Prim.Native.Nat.{ℕ, zero, suc, _+_, _<_, _≤_}
-use native.Mathlib.Numerals.{add-one}
-use lib.ListN.{length, getD, set, drop}
-use lib.Seq.{sets}
+use mathlib.Core.Bool.{Bool, true, false, cond, _&&_}
+use mathlib.Core.List.{[], _∷_, _++_, append-nil, append-assoc}
+use Prim.Native.Nat.{ℕ, suc, _+_, _-_, _<_, _≤_}
 use native.Mathlib.Omega.{arith}
-use Rattle.paper.proofs.Laws.{next, ended}
-use Rattle.paper.specs.File.{laid}
+use borrow.Author.Tests.{le-leb, lt-leb, leb-true, ltb-false}
+use lib.Dec.{leb, ltb}
+use lib.ListN.{length, take, drop, getD, set, length-take, length-drop, take-append-drop}
+use lib.Seq.{sets, sets-eq, set-set, set-comm, length-take-le, take-all, take-add, drop-drop}
+use Rattle.paper.proofs.Laws.{ended, never, both, take-next}
+use Rattle.paper.specs.Bytes.{Bytes, every, part, blanks, laid}
+use Rattle.text.specs.Words.{isByte, little, bytesOf, wordLaid}
+use Rattle.text.proofs.Laying.{laid-append}
+use Rattle.text.proofs.Words.{bytes-little, stores, word-fits}
+use Rattle.record.specs.Parts.{spans, placed}
 
--- a byte past the last is not stored
-set-past : (r : List ℕ) (k x : ℕ) → length r ≤ k → set r k x ≡ r
-set-past [] k x h = refl
-set-past (y ∷ r) zero x h = absurd (omega arith)
-set-past (y ∷ r) (suc k) x h = ap (λ (s : List ℕ). y ∷ s) (set-past r k x (omega arith))
+module _ (out r : Bytes) (at : ℕ) where
+  -- no room
+  pub not-placed : length out < at + 120 → out ≡ placed out at r
+  unfolding placed
+  not-placed h = rw (lt-leb _ _ h)
 
-sets-past : (t r : List ℕ) (k : ℕ) → length r ≤ k → sets r k t ≡ r
-sets-past [] r k h = refl
-sets-past (x ∷ t) r k h =
-    ap (λ (q : List ℕ). sets q (suc k) t) (set-past r k x h) ∙ sets-past t r (suc k) (omega arith)
+  -- the k bytes from the place on, which are 120, made the record
+  pub lent-placed : (k : ℕ) (new : Bytes) → k ≡ 120 → at + 120 ≤ length out → length r ≡ 120 → new ≡ r → take at out ++ (new ++ drop k (drop at out)) ≡ placed out at r
+  unfolding placed laid
+  lent-placed k new e h l n =
+      let f : at + length r ≤ length out = omega arith in
+      let p : placed out at r ≡ laid out at r = rw (le-leb _ _ h) in
+      let d : drop k (drop at out) ≡ drop (at + length r) out = drop-drop k at out ∙ ap (λ (m : ℕ). drop (at + m) out) (e ∙ sym l) in
+      (λ i. take at out ++ (n i ++ d i)) ∙ sym (append-assoc (take at out) r (drop (at + length r) out)) ∙ sym (p ∙ sets-eq r out at f)
 
--- The answers of the loop that lays the text t from its byte j on, at byte k of r; e is the record to be
-pub lay-again : (t r e : List ℕ) (k j : ℕ) → laid r k (drop j t) ≡ e → j < length t → laid (set r k (getD t j 0)) (k + 1) (drop (j + 1) t) ≡ e
+-- 120 bytes, and as many blanks over them
+pub all-blank : (r : Bytes) → length r ≡ 120 → laid r 0 (blanks 120) ≡ blanks 120
 unfolding laid
-lay-again t r e k j v h = ap (λ (n : ℕ). sets (set r k (getD t j 0)) n (drop (j + 1) t)) (add-one k) ∙ ap (sets r k) (sym (next t j h)) ∙ v
+all-blank r l = let f : 0 + length (blanks 120) ≤ length r = omega arith in sets-eq (blanks 120) r 0 f ∙ ap (λ (s : Bytes). blanks 120 ++ s) (ended r 120 (omega arith)) ∙ append-nil (blanks 120)
 
-pub lay-past : (t r e : List ℕ) (k j n : ℕ) → laid r k (drop j t) ≡ e → length r ≡ n → n ≤ k → r ≡ e
+-- A TEXT BY ITS FIRST AND ITS LAST BYTES
+
+pub record Spans (n w room at : ℕ) : Type 0 where
+  pub least : w ≤ n
+  pub most : n ≤ w + w
+  pub fits : at + n ≤ room
+
+pub spans-told : (n w room at : ℕ) → spans n w room at ≡ true → Spans n w room at
+unfolding spans
+spans-told n w room at e = by (ltb room n) refl e
+  where
+    by : (b : Bool) → ltb room n ≡ b → cond b false ((leb w n && leb n (w + w)) && leb at (room - n)) ≡ true → Spans n w room at
+    by true q e = absurd (never e)
+    by false q e =
+        let p = both (leb w n && leb n (w + w)) (leb at (room - n)) e in
+        let f = both (leb w n) (leb n (w + w)) (p .0) in
+        let h : n ≤ room = ltb-false room n q in
+        let l : at ≤ room - n = leb-true at (room - n) (p .1) in
+        record { least = leb-true w n (f .0); most = leb-true n (w + w) (f .1); fits = omega arith }
+
+-- a byte stored before a text
+set-sets : (x q : Bytes) (p k b : ℕ) → p < k → set (sets q k x) p b ≡ sets (set q p b) k x
+set-sets [] q p k b h = refl
+set-sets (a ∷ x) q p k b h =
+    set-sets x (set q k a) p (suc k) b (omega arith) ∙ ap (λ (l : Bytes). sets l (suc k) x) (set-comm q k p a b (λ e. let f : k ≡ p = e in absurd (omega arith)))
+
+-- a text over another that is no longer
+over : (x y q : Bytes) (p : ℕ) → length x ≤ length y → sets (sets q p x) p y ≡ sets q p y
+over [] y q p h = refl
+over (a ∷ x) [] q p h = absurd (omega arith)
+over (a ∷ x) (b ∷ y) q p h =
+    ap (λ (l : Bytes). sets l (suc p) y) (set-sets x (set q p a) p (suc p) b (omega arith) ∙ ap (λ (l : Bytes). sets l (suc p) x) (set-set q p a b))
+    ∙ over x y (set q p b) (suc p) (omega arith)
+
+pub overlap : (w : ℕ) (s r : Bytes) (at : ℕ) → w ≤ length s → length s ≤ w + w
+    → laid (laid r at (take w s)) (at + (length s - w)) (drop (length s - w) s) ≡ laid r at s
 unfolding laid
-lay-past t r e k j n v l h = sym (sets-past (drop j t) r k (omega arith)) ∙ v
+overlap w s r at h g =
+    let m = length s - w in
+    let k = w - m in
+    let e : w ≡ m + k = omega arith in
+    let l : length (take m s) ≡ m = length-take-le m s (omega arith) in
+    let d : length (take k (drop m s)) ≤ length (drop m s) = omega (arith, length-take k (drop m s)) in
+    let f : laid r at (take w s) ≡ laid (laid r at (take m s)) (at + m) (take k (drop m s)) =
+    ap (λ (i : ℕ). laid r at (take i s)) e ∙ ap (laid r at) (take-add m k s) ∙ sym (laid-append (take m s) (take k (drop m s)) r at)
+    ∙ ap (λ (i : ℕ). laid (laid r at (take m s)) (at + i) (take k (drop m s))) l in
+    ap (λ (q : Bytes). laid q (at + m) (drop m s)) f ∙ over (take k (drop m s)) (drop m s) (laid r at (take m s)) (at + m) d
+    ∙ ap (λ (i : ℕ). laid (laid r at (take m s)) (at + i) (drop m s)) (sym l) ∙ laid-append (take m s) (drop m s) r at ∙ ap (laid r at) (take-append-drop m s)
 
-pub lay-end : (t r e : List ℕ) (k j : ℕ) → laid r k (drop j t) ≡ e → length t ≤ j → r ≡ e
+-- the last w bytes
+last-part : (w : ℕ) (s : Bytes) → w ≤ length s → part (length s - w) w s ≡ drop (length s - w) s
+last-part w s h = take-all w (drop (length s - w) s) (omega (arith, length-drop (length s - w) s))
+
+module _ (w : ℕ) (r s o o' : Bytes) (at : ℕ) (p : Spans (length s) w (length r) at) where
+  pub both-parts : o ≡ laid r at (part 0 w s) → o' ≡ laid o (at + (length s - w)) (part (length s - w) w s) → o' ≡ laid r at s
+  both-parts e f =
+      f ∙ (λ i. laid (e i) (at + (length s - w)) (last-part w s (p .least) i)) ∙ overlap w s r at (p .least) (p .most)
+
+-- four bytes of a text
+pub four-parts : (r s : Bytes) (at from : ℕ) → from + 4 ≤ length s
+    → set (set (set (set r at (getD s from 0)) (at + 1) (getD s (from + 1) 0)) (at + 2) (getD s (from + 2) 0)) (at + 3) (getD s (from + 3) 0) ≡ laid r at (part from 4 s)
 unfolding laid
-lay-end t r e k j v h = sym (ap (sets r k) (ended t j h)) ∙ v
+four-parts r s at from h =
+    let two : from + 1 + 1 ≡ from + 2 = omega arith in
+    let three : from + 1 + 1 + 1 ≡ from + 3 = omega arith in
+    stores r at _ _ _ _
+    ∙ ap (sets r at) (sym (take-next 3 from s (omega arith) ∙ ap (λ (l : Bytes). getD s from 0 ∷ l)
+    (take-next 2 (from + 1) s (omega arith) ∙ ap (λ (l : Bytes). getD s (from + 1) 0 ∷ l)
+    (take-next 1 (from + 1 + 1) s (omega arith) ∙ (λ i. getD s (two i) 0 ∷ take 1 (drop (three i) s))
+    ∙ ap (λ (l : Bytes). getD s (from + 2) 0 ∷ l) (take-next 0 (from + 3) s (omega arith))))))
 
-pub ruleset laying = (lay-again, lay-past, lay-end)
-
--- one text more, laid into what the calls before it made; for functions that lay one text after the other
-pub onto : (q r e t : List ℕ) (k : ℕ) → q ≡ laid r k t → r ≡ e → q ≡ laid e k t
-onto q r e t k v w = v ∙ ap (λ (s : List ℕ). laid s k t) w
-
-pub ruleset one-by-one = onto
+-- a word of a text, laid in
+pub word-part : (r s o : Bytes) (at from w : ℕ) → at + 8 ≤ length r → from + 8 ≤ length s → w ≡ little (part from 8 s) → every isByte (part from 8 s) ≡ true
+    → o ≡ wordLaid r at w → o ≡ laid r at (part from 8 s)
+unfolding laid
+word-part r s o at from w h g e b v =
+    let l : length (part from 8 s) ≡ 8 = length-take-le 8 (drop from s) (omega (arith, length-drop from s)) in
+    let q : bytesOf 8 w ≡ part from 8 s = (λ i. bytesOf (sym l i) (e i)) ∙ bytes-little (part from 8 s) b in
+    v ∙ word-fits r at w h ∙ ap (sets r at) q

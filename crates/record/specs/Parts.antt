@@ -1,11 +1,18 @@
--- How each record of the acknowledgment file begins and ends, and the counts of the ACK Recap. Assumes nothing.
-use Prim.Native.Nat.{ℕ, _-_}
+-- How each record of the acknowledgment file begins and ends, the counts of the ACK Recap, and where a record goes. Assumes nothing.
+use Prim.Native.Nat.{ℕ, _+_, _-_}
+use mathlib.Core.Bool.{Bool, false, cond, _&&_}
 use mathlib.Core.List.{[], _∷_}
+use lib.Dec.{leb, ltb}
+use lib.ListN.{length}
 use Rattle.paper.specs.declared.Layout.{Layout}
 use Rattle.paper.specs.declared.Layout.the-variants.{LAckRecap}
-use Rattle.paper.specs.Bytes.{Bytes, bytes, written, zeros, blanks}
+use Rattle.paper.specs.Bytes.{Bytes, bytes, written, zeros, blanks, laid}
 use Rattle.paper.specs.Layouts.{entry}
-use Rattle.paper.specs.File.{laid, fields}
+use Rattle.paper.specs.File.{fields}
+
+-- a text of n bytes is its first and its last w bytes, and fits into so many bytes at a place
+unfoldable pub spans : ℕ → ℕ → ℕ → ℕ → Bool
+spans n w room at = cond (ltb room n) false ((leb w n && leb n (w + w)) && leb at (room - n))
 
 -- 120 blanks, the byte count, and field 0, the record's id
 unfoldable pub started : Layout → Bytes → Bytes
@@ -26,3 +33,8 @@ counted r accepted all =
     ∷ (110, zeros 6)
     ∷ (120, written 6 all)
     ∷ [])
+
+-- a record at a place of an output; where its 120 bytes do not fit whole, nothing is changed
+-- tied to the paper by `not-placed` and `lent-placed` of record/Laws
+unfoldable pub placed : Bytes → ℕ → Bytes → Bytes
+placed out at r = cond (leb (at + 120) (length out)) (laid out at r) out

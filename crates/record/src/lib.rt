@@ -1,55 +1,109 @@
-// The records of the acknowledgment file: 120 blanks, into which texts are laid by the layout tables.
+// The records of the acknowledgment file, written into an output: 120 blanks, over which texts are laid by the layout tables.
 use paper::Layout;
 use paper::Letter;
 use paper::Verdict;
 ghost use mathlib.Core.Path.{_≡_};
 ghost use mathlib.Core.List.{[], _∷_};
-ghost use Prim.Native.Nat.{_-_};
-ghost use Rattle.paper.specs.Bytes.{written};
+ghost use Prim.Native.Nat.{_+_, _-_, _≤_};
+ghost use lib.ListN.{length};
+ghost use Rattle.paper.specs.Bytes.{part, written, laid};
 ghost use Rattle.paper.specs.Layouts.{entry};
-ghost use Rattle.paper.specs.File.{laid, letterByte, verdictByte, keyRecord, errorRecord, recapRecord};
-ghost use Rattle.record.specs.Parts.{started, ended, counted};
+ghost use Rattle.paper.specs.File.{letterByte, verdictByte, keyRecord, errorRecord, recapRecord};
+ghost use Rattle.record.specs.Parts.{spans, started, ended, counted, placed};
 
-// The text laid into r from byte at on; what would stand past the last byte is left out.
-fn lay(r: [u8; 120], at: usize, text: &[u8]) -> [u8; 120]
-    ensures { λ q. ⌜ q ≡ laid r at (now (text .entry)) ⌝ }
+// What a Key says of its documents: the verdict, field 0065 and the number of Error records.
+pub struct Marks {
+    pub verdict: Verdict,
+    pub pin: u8,
+    pub errors: u32,
+}
+
+fn lay_field(r: &mut [u8], l: Layout, number: u32, text: &[u8])
+    ensures { λ _. ⌜ now (r .exit) ≡ laid (now (r .entry)) (entry l number .start) (now (text .entry)) ⌝ }
 {
-    let mut q = r;
-    let mut to = at;
-    let mut j: usize = 0;
-    while j < text.len() {
-        if 120 <= to {
-            return q;
-        }
-        q[to] = text[j];
-        to = to + 1;
-        j = j + 1;
+    text::lay(r, layout::start_of(l, number), text)
+}
+
+// Four bytes of a text, from a place of it on.
+fn copy_four(r: &mut [u8], at: usize, text: &[u8], from: usize)
+    requires { ⌜ (at + 4 ≤ length (now r)) × (from + 4 ≤ length (now text)) ⌝ }
+    ensures { λ _. ⌜ now (r .exit) ≡ laid (now (r .entry)) at (part from 4 (now (text .entry))) ⌝ }
+{
+    let a = text[from];
+    let b = text[from + 1];
+    let c = text[from + 2];
+    let d = text[from + 3];
+    r[at] = a;
+    r[at + 1] = b;
+    r[at + 2] = c;
+    r[at + 3] = d;
+}
+
+// A text of n bytes is its first and its last width bytes, and fits into so many bytes at a place.
+fn spans(n: usize, width: usize, room: usize, at: usize) -> bool
+    requires { ⌜ width ≤ 8 ⌝ }
+    ensures { λ r. ⌜ r ≡ spans n width room at ⌝ }
+{
+    if room < n {
+        return false;
     }
-    q
+    (width <= n) & (n <= width + width) & (at <= room - n)
 }
 
-fn lay_field(r: [u8; 120], l: Layout, number: u32, text: &[u8]) -> [u8; 120]
-    ensures { λ q. ⌜ q ≡ laid r (entry l number .start) (now (text .entry)) ⌝ }
+// A text of 4 to 8 bytes, by its first and its last four; any other byte by byte.
+fn lay_short(r: &mut [u8], at: usize, text: &[u8])
+    ensures { λ _. ⌜ now (r .exit) ≡ laid (now (r .entry)) at (now (text .entry)) ⌝ }
 {
-    lay(r, layout::start_of(l, number), text)
+    let n = text.len();
+    if !spans(n, 4, r.len(), at) {
+        return text::lay(r, at, text);
+    }
+    copy_four(r, at, text, 0);
+    copy_four(r, at + (n - 4), text, n - 4)
 }
 
-fn lay_byte(r: [u8; 120], l: Layout, number: u32, b: u8) -> [u8; 120]
-    ensures { λ q. ⌜ q ≡ laid r (entry l number .start) (b ∷ []) ⌝ }
+// A text of 8 to 16 bytes, by its first and its last eight; any other byte by byte.
+fn lay_wide(r: &mut [u8], at: usize, text: &[u8])
+    ensures { λ _. ⌜ now (r .exit) ≡ laid (now (r .entry)) at (now (text .entry)) ⌝ }
+{
+    let n = text.len();
+    if !spans(n, 8, r.len(), at) {
+        return text::lay(r, at, text);
+    }
+    let first = text::word(text, 0);
+    let last = text::word(text, n - 8);
+    text::put_word(r, at, first);
+    text::put_word(r, at + (n - 8), last)
+}
+
+fn short_field(r: &mut [u8], l: Layout, number: u32, text: &[u8])
+    ensures { λ _. ⌜ now (r .exit) ≡ laid (now (r .entry)) (entry l number .start) (now (text .entry)) ⌝ }
+{
+    lay_short(r, layout::start_of(l, number), text)
+}
+
+fn wide_field(r: &mut [u8], l: Layout, number: u32, text: &[u8])
+    ensures { λ _. ⌜ now (r .exit) ≡ laid (now (r .entry)) (entry l number .start) (now (text .entry)) ⌝ }
+{
+    lay_wide(r, layout::start_of(l, number), text)
+}
+
+fn lay_byte(r: &mut [u8], l: Layout, number: u32, b: u8)
+    ensures { λ _. ⌜ now (r .exit) ≡ laid (now (r .entry)) (entry l number .start) (b ∷ []) ⌝ }
 {
     let text = [b];
     lay_field(r, l, number, &text)
 }
 
-fn lay_two(r: [u8; 120], l: Layout, number: u32, n: u32) -> [u8; 120]
-    ensures { λ q. ⌜ q ≡ laid r (entry l number .start) (written 2 n) ⌝ }
+fn lay_two(r: &mut [u8], l: Layout, number: u32, n: u32)
+    ensures { λ _. ⌜ now (r .exit) ≡ laid (now (r .entry)) (entry l number .start) (written 2 n) ⌝ }
 {
     let text = [(n / 10 % 10 + 48) as u8, (n % 10 + 48) as u8];
     lay_field(r, l, number, &text)
 }
 
-fn lay_four(r: [u8; 120], l: Layout, number: u32, n: u32) -> [u8; 120]
-    ensures { λ q. ⌜ q ≡ laid r (entry l number .start) (written 4 n) ⌝ }
+fn lay_four(r: &mut [u8], l: Layout, number: u32, n: u32)
+    ensures { λ _. ⌜ now (r .exit) ≡ laid (now (r .entry)) (entry l number .start) (written 4 n) ⌝ }
 {
     let text = [
         (n / 10 / 10 / 10 % 10 + 48) as u8,
@@ -60,8 +114,8 @@ fn lay_four(r: [u8; 120], l: Layout, number: u32, n: u32) -> [u8; 120]
     lay_field(r, l, number, &text)
 }
 
-fn lay_six(r: [u8; 120], l: Layout, number: u32, n: u32) -> [u8; 120]
-    ensures { λ q. ⌜ q ≡ laid r (entry l number .start) (written 6 n) ⌝ }
+fn lay_six(r: &mut [u8], l: Layout, number: u32, n: u32)
+    ensures { λ _. ⌜ now (r .exit) ≡ laid (now (r .entry)) (entry l number .start) (written 6 n) ⌝ }
 {
     let text = [
         (n / 10 / 10 / 10 / 10 / 10 % 10 + 48) as u8,
@@ -74,18 +128,20 @@ fn lay_six(r: [u8; 120], l: Layout, number: u32, n: u32) -> [u8; 120]
     lay_field(r, l, number, &text)
 }
 
-fn started(l: Layout, id: &[u8]) -> [u8; 120]
-    ensures { λ q. ⌜ q ≡ started l (now (id .entry)) ⌝ }
+fn start(r: &mut [u8], l: Layout, id: &[u8])
+    requires { ⌜ length (now r) ≡ 120 ⌝ }
+    ensures { λ _. ⌜ now (r .exit) ≡ started l (now (id .entry)) ⌝ }
 {
-    let q = [32u8; 120];
-    let q = lay(q, 0, b"0120****");
-    lay_field(q, l, 0, id)
+    let blanks = [32u8; 120];
+    text::lay(r, 0, &blanks);
+    text::lay(r, 0, b"0120****");
+    lay_field(r, l, 0, id)
 }
 
-fn ended(r: [u8; 120]) -> [u8; 120]
-    ensures { λ q. ⌜ q ≡ ended r ⌝ }
+fn end(r: &mut [u8])
+    ensures { λ _. ⌜ now (r .exit) ≡ ended (now (r .entry)) ⌝ }
 {
-    lay(r, 119, b"#")
+    text::lay(r, 119, b"#")
 }
 
 fn letter_byte(l: Letter) -> u8
@@ -107,35 +163,36 @@ fn verdict_byte(v: Verdict) -> u8
     }
 }
 
-// ACK Key: the number of its Error records is errors.
-pub fn key_record(
+fn lay_key(
+    r: &mut [u8],
     ssn: &[u8],
     sequence: &[u8],
-    v: Verdict,
-    pin: u8,
+    marks: Marks,
     date: &[u8],
     control: &[u8],
-    errors: u32,
     literal: &[u8],
-) -> [u8; 120]
-    ensures { λ q. ⌜ q ≡ keyRecord (now (ssn .entry)) (now (sequence .entry)) v pin (now (date .entry)) (now (control .entry)) errors (now (literal .entry)) ⌝ }
+)
+    requires { ⌜ length (now r) ≡ 120 ⌝ }
+    ensures { λ _. ⌜ now (r .exit) ≡ keyRecord (now (ssn .entry)) (now (sequence .entry)) (marks .verdict) (marks .pin) (now (date .entry)) (now (control .entry)) (marks .errors) (now (literal .entry)) ⌝ }
 {
-    let q = started(Layout::LKey, b"ACK   ");
-    let q = lay_field(q, Layout::LKey, 20, ssn);
-    let q = lay_field(q, Layout::LKey, 30, sequence);
-    let q = lay_byte(q, Layout::LKey, 50, verdict_byte(v));
-    let q = lay_byte(q, Layout::LKey, 65, pin);
-    let q = lay_field(q, Layout::LKey, 80, date);
-    let q = lay_field(q, Layout::LKey, 90, control);
-    let q = lay_two(q, Layout::LKey, 100, errors);
-    let q = lay_field(q, Layout::LKey, 110, b"00");
-    let q = lay_field(q, Layout::LKey, 115, literal);
-    let q = lay_byte(q, Layout::LKey, 117, b'0');
-    ended(q)
+    let v = marks.verdict;
+    let verdict = verdict_byte(v);
+    start(r, Layout::LKey, b"ACK   ");
+    wide_field(r, Layout::LKey, 20, ssn);
+    wide_field(r, Layout::LKey, 30, sequence);
+    lay_byte(r, Layout::LKey, 50, verdict);
+    lay_byte(r, Layout::LKey, 65, marks.pin);
+    wide_field(r, Layout::LKey, 80, date);
+    wide_field(r, Layout::LKey, 90, control);
+    lay_two(r, Layout::LKey, 100, marks.errors);
+    lay_field(r, Layout::LKey, 110, b"00");
+    wide_field(r, Layout::LKey, 115, literal);
+    lay_byte(r, Layout::LKey, 117, b'0');
+    end(r)
 }
 
-// ACK Error: n is its running number, rule the field times 10000 plus the code.
-pub fn error_record(
+fn lay_error(
+    r: &mut [u8],
     ssn: &[u8],
     n: u32,
     id: &[u8],
@@ -143,19 +200,20 @@ pub fn error_record(
     page: &[u8],
     occurrence: &[u8],
     rule: u32,
-) -> [u8; 120]
-    ensures { λ q. ⌜ q ≡ errorRecord (now (ssn .entry)) n (now (id .entry)) (now (form .entry)) (now (page .entry)) (now (occurrence .entry)) rule ⌝ }
+)
+    requires { ⌜ length (now r) ≡ 120 ⌝ }
+    ensures { λ _. ⌜ now (r .exit) ≡ errorRecord (now (ssn .entry)) n (now (id .entry)) (now (form .entry)) (now (page .entry)) (now (occurrence .entry)) rule ⌝ }
 {
-    let q = started(Layout::LError, b"ACKR  ");
-    let q = lay_field(q, Layout::LError, 10, ssn);
-    let q = lay_two(q, Layout::LError, 30, n);
-    let q = lay_field(q, Layout::LError, 40, id);
-    let q = lay_field(q, Layout::LError, 50, form);
-    let q = lay_field(q, Layout::LError, 60, page);
-    let q = lay_field(q, Layout::LError, 70, occurrence);
-    let q = lay_four(q, Layout::LError, 80, rule / 10000);
-    let q = lay_four(q, Layout::LError, 90, rule % 10000);
-    ended(q)
+    start(r, Layout::LError, b"ACKR  ");
+    wide_field(r, Layout::LError, 10, ssn);
+    lay_two(r, Layout::LError, 30, n);
+    short_field(r, Layout::LError, 40, id);
+    short_field(r, Layout::LError, 50, form);
+    short_field(r, Layout::LError, 60, page);
+    short_field(r, Layout::LError, 70, occurrence);
+    lay_four(r, Layout::LError, 80, rule / 10000);
+    lay_four(r, Layout::LError, 90, rule % 10000);
+    end(r)
 }
 
 fn less(a: u32, b: u32) -> u32
@@ -165,27 +223,110 @@ fn less(a: u32, b: u32) -> u32
 }
 
 // The counts of the ACK Recap: accepted, rejected and all documents.
-fn lay_counts(r: [u8; 120], accepted: u32, all: u32) -> [u8; 120]
-    ensures { λ q. ⌜ q ≡ counted r accepted all ⌝ }
+fn lay_counts(r: &mut [u8], accepted: u32, all: u32)
+    ensures { λ _. ⌜ now (r .exit) ≡ counted (now (r .entry)) accepted all ⌝ }
 {
-    let q = lay_six(r, Layout::LAckRecap, 70, accepted);
-    let q = lay_field(q, Layout::LAckRecap, 80, b"000000");
-    let q = lay_six(q, Layout::LAckRecap, 90, less(all, accepted));
-    let q = lay_field(q, Layout::LAckRecap, 100, b"000000");
-    let q = lay_field(q, Layout::LAckRecap, 110, b"000000");
-    lay_six(q, Layout::LAckRecap, 120, all)
+    lay_six(r, Layout::LAckRecap, 70, accepted);
+    lay_field(r, Layout::LAckRecap, 80, b"000000");
+    lay_six(r, Layout::LAckRecap, 90, less(all, accepted));
+    lay_field(r, Layout::LAckRecap, 100, b"000000");
+    lay_field(r, Layout::LAckRecap, 110, b"000000");
+    lay_six(r, Layout::LAckRecap, 120, all)
+}
+
+fn lay_recap(r: &mut [u8], recap: &[u8], twelve: &[u8], accepted: u32, all: u32, name: &[u8])
+    requires { ⌜ length (now r) ≡ 120 ⌝ }
+    ensures { λ _. ⌜ now (r .exit) ≡ recapRecord (now (recap .entry)) (now (twelve .entry)) accepted all (now (name .entry)) ⌝ }
+{
+    start(r, Layout::LAckRecap, b"RECAP ");
+    lay_field(r, Layout::LAckRecap, 20, b"000000");
+    lay_field(
+        r,
+        Layout::LAckRecap,
+        30,
+        layout::field_of(Layout::LRecap, 30, recap),
+    );
+    wide_field(r, Layout::LAckRecap, 40, twelve);
+    lay_counts(r, accepted, all);
+    lay_field(r, Layout::LAckRecap, 140, name);
+    end(r)
+}
+
+// A record goes to a place of out; where it does not fit whole, nothing is changed.
+
+// ACK Key.
+pub fn put_key(
+    out: &mut [u8],
+    at: usize,
+    ssn: &[u8],
+    sequence: &[u8],
+    marks: Marks,
+    date: &[u8],
+    control: &[u8],
+    literal: &[u8],
+)
+    ensures { λ _. ⌜ now (out .exit) ≡ placed (now (out .entry)) at (keyRecord (now (ssn .entry)) (now (sequence .entry)) (marks .verdict) (marks .pin) (now (date .entry)) (now (control .entry)) (marks .errors) (now (literal .entry))) ⌝ }
+{
+    if out.len() < 120 {
+        return;
+    }
+    if out.len() - 120 < at {
+        return;
+    }
+    let end = at + 120;
+    lay_key(
+        &mut out[at..end],
+        ssn,
+        sequence,
+        marks,
+        date,
+        control,
+        literal,
+    )
+}
+
+// ACK Error: n is its running number, rule the field times 10000 plus the code.
+pub fn put_error(
+    out: &mut [u8],
+    at: usize,
+    ssn: &[u8],
+    n: u32,
+    id: &[u8],
+    form: &[u8],
+    page: &[u8],
+    occurrence: &[u8],
+    rule: u32,
+)
+    ensures { λ _. ⌜ now (out .exit) ≡ placed (now (out .entry)) at (errorRecord (now (ssn .entry)) n (now (id .entry)) (now (form .entry)) (now (page .entry)) (now (occurrence .entry)) rule) ⌝ }
+{
+    if out.len() < 120 {
+        return;
+    }
+    if out.len() - 120 < at {
+        return;
+    }
+    let end = at + 120;
+    lay_error(&mut out[at..end], ssn, n, id, form, page, occurrence, rule)
 }
 
 // ACK Recap, with RECAP's own count and TRANA's 12 digits.
-pub fn recap_record(recap: &[u8], twelve: &[u8], accepted: u32, all: u32, name: &[u8]) -> [u8; 120]
-    ensures { λ q. ⌜ q ≡ recapRecord (now (recap .entry)) (now (twelve .entry)) accepted all (now (name .entry)) ⌝ }
+pub fn put_recap(
+    out: &mut [u8],
+    at: usize,
+    recap: &[u8],
+    twelve: &[u8],
+    accepted: u32,
+    all: u32,
+    name: &[u8],
+)
+    ensures { λ _. ⌜ now (out .exit) ≡ placed (now (out .entry)) at (recapRecord (now (recap .entry)) (now (twelve .entry)) accepted all (now (name .entry))) ⌝ }
 {
-    let q = started(Layout::LAckRecap, b"RECAP ");
-    let q = lay_field(q, Layout::LAckRecap, 20, b"000000");
-    let count = layout::field_of(Layout::LRecap, 30, recap);
-    let q = lay_field(q, Layout::LAckRecap, 30, count);
-    let q = lay_field(q, Layout::LAckRecap, 40, twelve);
-    let q = lay_counts(q, accepted, all);
-    let q = lay_field(q, Layout::LAckRecap, 140, name);
-    ended(q)
+    if out.len() < 120 {
+        return;
+    }
+    if out.len() - 120 < at {
+        return;
+    }
+    let end = at + 120;
+    lay_recap(&mut out[at..end], recap, twelve, accepted, all, name)
 }

@@ -1,4 +1,4 @@
--- A record set is its Key and its Error records, and its length; what is left of a document from a place on. Assumes nothing.
+-- A record set is its Key and its Error records, and its length; what is left of bytes from a place on. Assumes nothing.
 use mathlib.Core.Path.{_≡_, refl, sym, ap, _∙_}
 use Prim.Native.Nat.{ℕ, _+_, _-_, _*_, _≤_}
 use mathlib.Core.Bool.{Bool, cond, _&&_}
@@ -8,20 +8,20 @@ use lib.Seq.{take-all}
 use native.Mathlib.Omega.{arith}
 use Rattle.paper.proofs.Laws.{ended}
 use Rattle.paper.specs.declared.Facts.{Facts}
-use Rattle.paper.specs.declared.Found.{Found}
 use Rattle.paper.specs.declared.Letter.{Letter}
 use Rattle.paper.specs.declared.Layout.the-variants.{L4868}
 use Rattle.paper.specs.Bytes.{Bytes, digits, zeros}
+use Rattle.paper.specs.Judge.{Finding}
 use Rattle.paper.specs.Layouts.{field}
 use Rattle.paper.specs.File.{orZeros, errorOf, errorsFrom, setBy}
 use Rattle.paper.proofs.RecordSizes.{length-key, length-error}
 use Rattle.recordset.specs.Key.{keyOf}
 
-pub set-parts : (main doc : Bytes) (known : Bool) (date : Bytes) (l : Letter) (f : Facts) (found : List Found) (athFound : Bool)
-    → setBy main doc known date l f found athFound
-    ≡ keyOf main known date l f (length found) athFound ++ errorsFrom (orZeros known 9 (field L4868 90 main)) doc 1 found
+pub set-parts : (main : Bytes) (known : Bool) (date : Bytes) (l : Letter) (f : Facts) (found : List Finding) (athFound : Bool)
+    → setBy main known date l f found athFound
+    ≡ keyOf main known date l f (length found) athFound ++ errorsFrom (orZeros known 9 (field L4868 90 main)) 1 found
 unfolding setBy keyOf
-set-parts main doc known date l f found athFound = refl
+set-parts main known date l f found athFound = refl
 
 -- what `shown` ensures, with that many zeros
 pub shown-zeros : (known : Bool) (n : ℕ) (f : Bytes) → cond (known && digits f) f (zeros n) ≡ orZeros known n f
@@ -33,26 +33,26 @@ pub length-keyOf : (main : Bytes) (known : Bool) (date : Bytes) (l : Letter) (f 
 unfolding keyOf
 length-keyOf main known date l f errors athFound = length-key _ _ _ _ _ _ _ _
 
-pub length-errorOf : (ssn doc : Bytes) (n : ℕ) (x : Found) → length (errorOf ssn doc n x) ≡ 120
+pub length-errorOf : (ssn : Bytes) (n : ℕ) (x : Finding) → length (errorOf ssn n x) ≡ 120
 unfolding errorOf
-length-errorOf ssn doc n x = length-error _ _ _ _ _ _ _
+length-errorOf ssn n x = length-error _ _ _ _ _ _ _
 
-pub length-errorsFrom : (ssn doc : Bytes) (n : ℕ) (xs : List Found) → length (errorsFrom ssn doc n xs) ≡ 120 * length xs
-length-errorsFrom ssn doc n [] = refl
-length-errorsFrom ssn doc n (x ∷ xs) =
-    length-append (errorOf ssn doc n x) (errorsFrom ssn doc (n + 1) xs)
-    ∙ omega (arith, length-errorOf ssn doc n x, length-errorsFrom ssn doc (n + 1) xs)
+pub length-errorsFrom : (ssn : Bytes) (n : ℕ) (xs : List Finding) → length (errorsFrom ssn n xs) ≡ 120 * length xs
+length-errorsFrom ssn n [] = refl
+length-errorsFrom ssn n (x ∷ xs) =
+    length-append (errorOf ssn n x) (errorsFrom ssn (n + 1) xs)
+    ∙ omega (arith, length-errorOf ssn n x, length-errorsFrom ssn (n + 1) xs)
 
 -- 120 bytes for the Key and for each finding
-pub length-setBy : (main doc : Bytes) (known : Bool) (date : Bytes) (l : Letter) (f : Facts) (found : List Found) (athFound : Bool)
-    → length (setBy main doc known date l f found athFound) ≡ 120 + 120 * length found
-length-setBy main doc known date l f found athFound =
-    ap length (set-parts main doc known date l f found athFound)
-    ∙ length-append (keyOf main known date l f (length found) athFound) (errorsFrom (orZeros known 9 (field L4868 90 main)) doc 1 found)
+pub length-setBy : (main : Bytes) (known : Bool) (date : Bytes) (l : Letter) (f : Facts) (found : List Finding) (athFound : Bool)
+    → length (setBy main known date l f found athFound) ≡ 120 + 120 * length found
+length-setBy main known date l f found athFound =
+    ap length (set-parts main known date l f found athFound)
+    ∙ length-append (keyOf main known date l f (length found) athFound) (errorsFrom (orZeros known 9 (field L4868 90 main)) 1 found)
     ∙ omega
-    (arith, length-keyOf main known date l f (length found) athFound, length-errorsFrom (orZeros known 9 (field L4868 90 main)) doc 1 found)
+    (arith, length-keyOf main known date l f (length found) athFound, length-errorsFrom (orZeros known 9 (field L4868 90 main)) 1 found)
 
--- WHAT IS LEFT OF A DOCUMENT FROM A PLACE ON
+-- WHAT IS LEFT OF BYTES FROM A PLACE ON
 
 pub rest-at : (s : List ℕ) (k : ℕ) → take (length s - k) (drop k s) ≡ drop k s
 rest-at s k = take-all (length s - k) (drop k s) (simp length-drop (omega arith))

@@ -1,10 +1,10 @@
 // A document's record set: its ACK Key, and its ACK Error records.
 use paper::Facts;
-use paper::Found;
 use paper::Kind;
 use paper::Layout;
 use paper::Letter;
 use paper::Verdict;
+use record::Marks;
 ghost use mathlib.Core.Path.{_≡_};
 ghost use mathlib.Core.Bool.{cond, _&&_, _||_};
 ghost use lib.Dec.{ltb};
@@ -13,7 +13,8 @@ ghost use Rattle.paper.specs.Bytes.{digits};
 ghost use Rattle.paper.specs.Layouts.{field};
 ghost use Rattle.paper.specs.Walk.{is};
 ghost use Rattle.paper.specs.Judge.{isA};
-ghost use Rattle.paper.specs.File.{pinByte, errorOf};
+ghost use Rattle.paper.specs.File.{pinByte};
+ghost use Rattle.record.specs.Parts.{placed};
 ghost use Rattle.recordset.specs.Key.{keyOf};
 
 fn is_a(letter: Letter) -> bool
@@ -74,8 +75,9 @@ fn if_paid<'a>(letter: Letter, facts: Facts, text: &'a [u8], other: &'a [u8]) ->
     pick(is_a(letter) & (0 < facts.pays), text, other)
 }
 
-// The ACK Key of a document.
-pub fn set_key(
+// The ACK Key of a document, at the front of out.
+pub fn put_set_key(
+    out: &mut [u8],
     main: &[u8],
     known: bool,
     date: &[u8],
@@ -83,49 +85,41 @@ pub fn set_key(
     facts: Facts,
     errors: u32,
     ath_found: bool,
-) -> [u8; 120]
-    ensures { λ q. ⌜ q ≡ keyOf (now (main .entry)) known (now (date .entry)) letter facts errors «ath_found» ⌝ }
+)
+    ensures { λ _. ⌜ now (out .exit) ≡ placed (now (out .entry)) 0 (keyOf (now (main .entry)) known (now (date .entry)) letter facts errors «ath_found») ⌝ }
 {
     let ssn = shown(known, main, 90, b"000000000");
     let sequence = shown(known, main, 7, b"0000000000000000");
     let control = shown(known, main, 8, b"00000000000000");
-    let pin = pin_byte(known, ath_found, facts);
     let day = if_accepted(letter, date, b"00000000");
     let literal = if_paid(letter, facts, b"PYMNT RQST RECD", b"               ");
-    let v = Verdict::Judged(letter);
-    record::key_record(ssn, sequence, v, pin, day, control, errors, literal)
+    let marks = Marks {
+        verdict: Verdict::Judged(letter),
+        pin: pin_byte(known, ath_found, facts),
+        errors,
+    };
+    record::put_key(out, 0, ssn, sequence, marks, day, control, literal)
 }
 
-fn from(doc: &[u8], place: usize) -> &[u8]
-    ensures { λ r. ⌜ now r ≡ drop place (now (doc .entry)) ⌝ }
+// What an Error record shows of a record, which starts at the place: it is read in the bytes from there on.
+pub fn from(t: &[u8], place: usize) -> &[u8]
+    ensures { λ r. ⌜ now r ≡ drop place (now (t .entry)) ⌝ }
 {
-    let n = doc.len();
-    if n <= place { &doc[n..] } else { &doc[place..] }
+    let n = t.len();
+    if n <= place { &t[n..] } else { &t[place..] }
 }
 
-fn type_at<'a>(kind: Kind, r: &'a [u8], blanks: &'a [u8]) -> &'a [u8]
+pub fn type_at<'a>(kind: Kind, r: &'a [u8], blanks: &'a [u8]) -> &'a [u8]
     ensures { λ t. ⌜ now t ≡ cond (is Kind.Summary kind) (now (blanks .entry)) (field Layout.L4868 1 (now (r .entry))) ⌝ }
 {
     let form = layout::field_of(Layout::L4868, 1, r);
     pick(walk::is_summary(kind), blanks, form)
 }
 
-fn occurrence_at<'a>(kind: Kind, r: &'a [u8], first: &'a [u8]) -> &'a [u8]
+pub fn occurrence_at<'a>(kind: Kind, r: &'a [u8], first: &'a [u8]) -> &'a [u8]
     ensures { λ t. ⌜ now t ≡ cond ((is Kind.Payment kind || is Kind.Auth kind) && digits (field Layout.LPayment 5 (now (r .entry)))) (field Layout.LPayment 5 (now (r .entry))) (now (first .entry)) ⌝ }
 {
     let f = layout::field_of(Layout::LPayment, 5, r);
     let counted = walk::is_payment(kind) | walk::is_auth(kind);
     pick(counted & text::digits(f), f, first)
-}
-
-// The n-th ACK Error record of a document, for a finding.
-pub fn error_of(ssn: &[u8], doc: &[u8], n: u32, x: Found) -> [u8; 120]
-    ensures { λ q. ⌜ q ≡ errorOf (now (ssn .entry)) (now (doc .entry)) n x ⌝ }
-{
-    let r = from(doc, x.place);
-    let kind = x.kind;
-    let id = layout::field_of(Layout::L4868, 0, r);
-    let form = type_at(kind, r, b"      ");
-    let occurrence = occurrence_at(kind, r, b"0000001");
-    record::error_record(ssn, n, id, form, b"00001", occurrence, x.rule)
 }

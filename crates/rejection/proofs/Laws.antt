@@ -4,20 +4,20 @@ use mathlib.Core.Bool.{Bool, true, false, cond}
 use mathlib.Core.List.{List, [], _∷_, _++_}
 use Prim.Native.Nat.{ℕ, _+_, _*_, _≤_, _<_}
 use native.Mathlib.Omega.{arith}
-use borrow.Author.Tests.{lt-ltb, le-ltb}
+use borrow.Author.Tests.{lt-ltb, le-ltb, le-leb}
 use lib.Dec.{eqb}
-use lib.ListN.{length, getD, drop, replicate, length-append}
+use lib.ListN.{length, getD, drop, length-append}
 use lib.Seq.{sets-eq}
-use Rattle.paper.specs.declared.Answer.{Answer}
 use Rattle.paper.specs.declared.Answer.the-variants.{File, Refused}
 use Rattle.paper.specs.declared.Codes.{Codes}
 use Rattle.paper.specs.declared.Codes.the-variants.{C0823, C0822, C0840, C0822And0840}
 use Rattle.paper.specs.declared.Refusal.the-variants.{ShortOutput}
 use Rattle.paper.specs.declared.Verdict.the-variants.{Whole}
-use Rattle.paper.specs.Bytes.{Bytes, bytes, zeros, blanks}
-use Rattle.paper.specs.File.{laid, keyRecord, errorRecord, codeList, wholeErrors, rejection}
+use Rattle.paper.specs.Bytes.{Bytes, bytes, zeros, blanks, laid}
+use Rattle.paper.specs.File.{keyRecord, errorRecord, codeList, wholeErrors, rejection}
 use Rattle.paper.proofs.RecordSizes.{length-key, length-error}
-use Rattle.sets.proofs.Laws.{laid-append}
+use Rattle.text.proofs.Laying.{laid-append}
+use Rattle.record.specs.Parts.{placed}
 use Rattle.rejection.specs.Given.{codesBy, codeRow, Given}
 
 -- n bytes of a file do not fit, or do and stand at the front
@@ -28,9 +28,10 @@ module _ (file out : Bytes) (n : ℕ) (e : n ≡ length file) where
   pub give : (out' : Bytes) → n ≤ length out → out' ≡ laid out 0 file → Given file out out' (File n)
   give out' h eo = let s : length file ≤ length out = omega arith in record { says = rw (le-ltb _ _ s, e); leaves = eo }
 
--- a record that a call made, laid in
-pub laid-as : (o out q e : Bytes) (at : ℕ) → o ≡ laid out at q → q ≡ e → o ≡ laid out at e
-laid-as o out q e at v w = v ∙ ap (laid out at) w
+-- a record with room for it
+pub laid-as : (o out r : Bytes) (at : ℕ) → at + 120 ≤ length out → o ≡ placed out at r → o ≡ laid out at r
+unfolding placed
+laid-as o out r at h e = e ∙ ap (λ (b : Bool). cond b (laid out at r) out) (le-leb _ _ h)
 
 -- THE ERROR RECORDS OF THE CODES
 
@@ -64,6 +65,14 @@ codes-count first second cs e = by (eqb second 0) ∙ ap length e
     by true = refl
     by false = refl
 
+-- the room for one code, and for two
+pub one-fits : (b : Bool) (n : ℕ) → 120 + 120 * cond b 1 2 ≤ n → 240 ≤ n
+one-fits true n h = omega arith
+one-fits false n h = omega arith
+
+pub two-fit : (b : Bool) (n m : ℕ) → b ≡ false → 120 + 120 * cond b 1 2 ≤ n → m ≡ n → 360 ≤ m
+two-fit b n m e h l = let k : 120 + 120 * cond b 1 2 ≡ 360 = ap (λ (c : Bool). 120 + 120 * cond c 1 2) e in omega arith
+
 module _ (out o : Bytes) (first second : ℕ) (v : o ≡ laid out 120 (errorFor 1 first)) where
   pub one-code : eqb second 0 ≡ true → o ≡ laid out 120 (wholeErrors 1 (codesBy first second))
   one-code h = v ∙ ap (laid out 120) (no-more (errorFor 1 first)) ∙ ap (λ (b : Bool). laid out 120 (wholeErrors 1 (cond b (first ∷ []) (first ∷ second ∷ [])))) (sym h)
@@ -85,12 +94,12 @@ module _ (sequence : Bytes) (codes : Codes) where
       sym (length-append (key (length (codeList codes))) (wholeErrors 1 (codeList codes))
       ∙ omega (arith, length-key (zeros 9) sequence (Whole codes) 32 (zeros 8) (zeros 14) (length (codeList codes)) (blanks 15), length-codes 1 (codeList codes)))
 
-  pub rejection-laid : (n : ℕ) (k out o o' : Bytes) → n ≡ length (codeList codes) → k ≡ key n → o ≡ laid out 0 k → o' ≡ laid o 120 (wholeErrors 1 (codeList codes))
+  pub rejection-laid : (n : ℕ) (out o o' : Bytes) → n ≡ length (codeList codes) → o ≡ laid out 0 (key n) → o' ≡ laid o 120 (wholeErrors 1 (codeList codes))
       → o' ≡ laid out 0 (rejection sequence codes)
   unfolding rejection
-  rejection-laid n k out o o' en ek e1 e2 =
+  rejection-laid n out o o' en e1 e2 =
       let m = length (codeList codes) in
-      let q : k ≡ key m = ek ∙ ap key en in
+      let q : key n ≡ key m = ap key en in
       let h : 120 ≡ 0 + length (key m) = omega (arith, length-key (zeros 9) sequence (Whole codes) 32 (zeros 8) (zeros 14) m (blanks 15)) in
       e2 ∙ ap (λ (x : Bytes). laid x 120 (wholeErrors 1 (codeList codes))) e1
       ∙ (λ i. laid (laid out 0 (q i)) (h i) (wholeErrors 1 (codeList codes))) ∙ laid-append (key m) (wholeErrors 1 (codeList codes)) out 0

@@ -3,13 +3,14 @@ use paper::Answer;
 use paper::Codes;
 use paper::Refusal;
 use paper::Verdict;
+use record::Marks;
 ghost use mathlib.Core.Path.{_≡_};
 ghost use mathlib.Core.Bool.{cond};
-ghost use Prim.Native.Nat.{_*_, _≤_};
+ghost use Prim.Native.Nat.{_+_, _*_, _≤_};
 ghost use lib.Dec.{eqb};
 ghost use lib.ListN.{length};
-ghost use Rattle.paper.specs.Bytes.{zeros, blanks};
-ghost use Rattle.paper.specs.File.{laid, errorRecord, wholeErrors, rejection};
+ghost use Rattle.paper.specs.Bytes.{zeros, blanks, laid};
+ghost use Rattle.paper.specs.File.{errorRecord, wholeErrors, rejection};
 ghost use Rattle.paper.specs.Answer.{roomFor, leftBy};
 ghost use Rattle.rejection.specs.Given.{codesBy, codeRow};
 
@@ -27,9 +28,12 @@ fn codes_of(codes: Codes) -> [u32; 2]
 
 // The n-th Error record, for a code.
 fn put_code(out: &mut [u8], n: u32, code: u32)
+    requires { ⌜ 120 * n + 120 ≤ length (now out) ⌝ }
     ensures { λ _. ⌜ now (out .exit) ≡ laid (now (out .entry)) (120 * n) (errorRecord (zeros 9) n (blanks 6) (blanks 6) (zeros 5) (zeros 7) code) ⌝ }
 {
-    let e = record::error_record(
+    record::put_error(
+        out,
+        120 * n as usize,
         b"000000000",
         n,
         b"      ",
@@ -37,8 +41,7 @@ fn put_code(out: &mut [u8], n: u32, code: u32)
         b"00000",
         b"0000000",
         code,
-    );
-    sets::put(out, 120 * n as usize, &e)
+    )
 }
 
 fn errors_of(second: u32) -> u32
@@ -49,6 +52,7 @@ fn errors_of(second: u32) -> u32
 
 // An Error record a code.
 fn put_codes(out: &mut [u8], first: u32, second: u32)
+    requires { ⌜ 120 + 120 * cond (eqb second 0) 1 2 ≤ length (now out) ⌝ }
     ensures { λ _. ⌜ now (out .exit) ≡ laid (now (out .entry)) 120 (wholeErrors 1 (codesBy first second)) ⌝ }
 {
     put_code(out, 1, first);
@@ -70,18 +74,21 @@ pub fn reject(sequence: &[u8], codes: Codes, out: &mut [u8]) -> Answer
     if out.len() < size {
         return Answer::Refused(Refusal::ShortOutput);
     }
-    let v = Verdict::Whole(codes);
-    let key = record::key_record(
+    let marks = Marks {
+        verdict: Verdict::Whole(codes),
+        pin: b' ',
+        errors,
+    };
+    record::put_key(
+        out,
+        0,
         b"000000000",
         sequence,
-        v,
-        b' ',
+        marks,
         b"00000000",
         b"00000000000000",
-        errors,
         b"               ",
     );
-    sets::put(out, 0, &key);
     put_codes(out, first, second);
     Answer::File(size)
 }

@@ -9,10 +9,9 @@ use Rattle.paper.specs.declared.Answer.{Answer}
 use Rattle.paper.specs.declared.Answer.the-variants.{File, Refused}
 use Rattle.paper.specs.declared.Refusal.{Refusal}
 use Rattle.paper.specs.declared.Refusal.the-variants.{LongTransmission, BadPack, BadDateOrName, ShortOutput}
-use Rattle.paper.specs.Bytes.{Bytes, bytes, written}
+use Rattle.paper.specs.Bytes.{Bytes, bytes, written, laid}
 use Rattle.paper.specs.Fields.{validDate}
 use Rattle.paper.specs.Pack.{wellFormed}
-use Rattle.paper.specs.File.{laid}
 use Rattle.paper.specs.Answer.{fileName, prescribed, answer, refusalNumber, numberOf, leftBy, shown}
 
 module _ (t pack date name : Bytes) (room : ℕ) where

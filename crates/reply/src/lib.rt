@@ -3,8 +3,7 @@ use paper::Answer;
 ghost use mathlib.Core.Path.{_≡_};
 ghost use mathlib.Core.List.{[], _∷_, _++_};
 ghost use lib.ListN.{length};
-ghost use Rattle.paper.specs.Bytes.{bytes, written};
-ghost use Rattle.paper.specs.File.{laid};
+ghost use Rattle.paper.specs.Bytes.{bytes, written, laid};
 ghost use Rattle.paper.specs.Answer.{prescribed, answer, shown};
 
 fn refusal_line(number: u32) -> [u8; 10]
@@ -34,7 +33,7 @@ pub fn reply(t: &[u8], pack: &[u8], date: &[u8], name: &[u8], out: &mut [u8]) ->
         Answer::File(n) => n,
         Answer::Refused(_) => {
             let line = refusal_line(ack::number_of(a));
-            sets::put(out, 0, &line);
+            text::lay(out, 0, &line);
             10
         }
     }

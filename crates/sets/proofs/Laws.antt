@@ -1,78 +1,293 @@
--- Texts laid into an output one after the other. Assumes nothing.
+-- The rules of a set one after the other, and Error records laid one after the other. Assumes nothing.
 use mathlib.Core.Path.{_≡_, refl, sym, ap, _∙_}
-use mathlib.Core.Bool.{Bool, true, false, cond, _&&_}
+use mathlib.Core.Bool.{Bool, true, cond, _&&_}
 use mathlib.Core.List.{List, [], _∷_, _++_, map, append-nil, append-assoc}
-use Prim.Native.Nat.{ℕ, zero, suc, _+_, _-_, _*_, _<_, _≤_, min}
-use native.Mathlib.Nat.{add-suc, add-zero, zero-add, suc-add, le-of-eq}
-use native.Mathlib.Numerals.{add-one}
+use Prim.Native.Nat.{ℕ, zero, suc, _+_, _-_, _*_, _/_, _%_, _^_, _<_, _≤_, min}
+use native.Mathlib.Nat.{pow-suc}
 use native.Mathlib.Omega.{arith}
-use borrow.Author.Tests.{leb-true, leb-false}
-use lib.Dec.{leb}
-use lib.ListN.{length, getD, set, drop, take, drop-of-length-le, length-take, length-drop, length-map}
-use lib.Seq.{sets, sets-eq, drop-cons, drop-drop, getD-take, take-all, take-take}
-use Rattle.record.proofs.Laws.{lay-again, lay-past, lay-end}
+use borrow.Author.Tests.{le-leb, lt-leb, ltb-true}
+use lib.Bits.{bitAnd, and-block, and-self, and-le-r}
+use lib.Count.{trailingZeros, under}
+use lib.Dec.{eqb, leb, ltb, lit<}
+use lib.ListN.{length, getD, drop, take, length-append, length-take}
+use lib.Seq.{drop-drop}
+use Prim.{tt}
+use Rattle.text.proofs.Laying.{laid-append}
+use Rattle.rules.specs.Sets.{chosen}
+use Rattle.record.specs.Parts.{placed}
 use Rattle.recordset.specs.Key.{keyOf}
-use Rattle.recordset.proofs.Laws.{length-errorOf, length-keyOf, set-parts}
-use Rattle.sets.specs.Set.{kindAt, foundBy, firsts, setAs}
+use Rattle.recordset.proofs.Laws.{length-errorsFrom, length-keyOf, set-parts}
+use Rattle.sets.specs.Set.{kindAt, foundIn, foundFrom, firsts, setAs}
 use Rattle.paper.specs.declared.Judgment.{Judgment}
 use Rattle.paper.specs.declared.Kind.{Kind}
 use Rattle.paper.specs.declared.Kind.the-variants.{TranA, TranB, Form, Unknown, Payment, Auth, Summary, Recap, Stray}
 use Rattle.paper.specs.declared.Layout.the-variants.{L4868}
-use Rattle.paper.specs.Bytes.{Bytes, bytes, digits}
+use Rattle.paper.specs.Bytes.{Bytes, bytes, digits, every, laid}
+use Rattle.paper.specs.Conditions.{formRules, paymentRules, authRules, summaryRules, rulesOf}
+use Rattle.paper.specs.Judge.{Finding, mark, typeAt, occurrenceAt}
 use Rattle.paper.specs.Layouts.{field}
 use Rattle.paper.specs.Walk.{kindNumber}
-use Rattle.paper.specs.File.{laid, errorOf, errorsFrom, orZeros}
+use Rattle.paper.specs.File.{errorRecord, errorOf, errorsFrom, orZeros, setBy}
+use Rattle.paper.proofs.Laws.{both}
+use Rattle.paper.proofs.RecordSizes.{length-laid}
 
--- two texts, the second right after the first, are one
-pub laid-append : (s t r : List ℕ) (at : ℕ) → laid (laid r at s) (at + length s) t ≡ laid r at (s ++ t)
+-- THE RULES OF A SET
+
+-- without its lowest bit: of twice m, and of one more
+clear-even : (m : ℕ) → 0 < m → bitAnd (m * 2 + 0) (m * 2 + 0 - 1) ≡ bitAnd m (m - 1) * 2
+clear-even m h =
+    let e : m * 2 + 0 - 1 ≡ (m - 1) * 2 + 1 = omega arith in
+    ap (bitAnd (m * 2 + 0)) e ∙ and-block 1 m (m - 1) 0 1 (lit< tt) (lit< tt) ∙ omega arith
+
+clear-odd : (m : ℕ) → bitAnd (m * 2 + 1) (m * 2 + 1 - 1) ≡ m * 2
+clear-odd m =
+    let e : m * 2 + 1 - 1 ≡ m * 2 + 0 = omega arith in
+    ap (bitAnd (m * 2 + 1)) e ∙ and-block 1 m m 1 0 (lit< tt) (lit< tt) ∙ ap (λ (x : ℕ). x * 2 + 0) (and-self m) ∙ omega arith
+
+-- the rules of twice a set pass over the first
+chosen-even : (m : ℕ) (x : ℕ) (s : List ℕ) → chosen (m * 2) (x ∷ s) ≡ chosen m s
+chosen-even m x s =
+    let r : m * 2 % 2 ≡ 0 = omega arith in
+    let q : m * 2 / 2 ≡ m = omega arith in
+    (λ i. cond (eqb (r i) 1) (x ∷ chosen (q i) s) (chosen (q i) s))
+
+-- the rule of the lowest bit, and those of the others
+pub next-rule : (d set : ℕ) (s : List ℕ) → 0 < set → set < 2 ^ d → trailingZeros d set < length s
+    → chosen set s ≡ getD s (trailingZeros d set) 0 ∷ chosen (bitAnd set (set - 1)) s
+unfolding trailingZeros
+next-rule zero set s p h l = absurd (omega arith)
+next-rule (suc d) set [] p h l = absurd (omega arith)
+next-rule (suc d) set (x ∷ s) p h l =
+    let w : set ≡ set / 2 * 2 + set % 2 = omega arith in
+    let b : set / 2 < 2 ^ d = omega (arith, pow-suc 2 d) in
+    by (set % 2) refl w l (λ o f. next-rule d (set / 2) s o b f)
+  where
+    by : (r : ℕ) → set % 2 ≡ r → set ≡ set / 2 * 2 + r → under r (trailingZeros d (set / 2)) < suc (length s)
+        → (0 < set / 2 → trailingZeros d (set / 2) < length s → chosen (set / 2) s ≡ getD s (trailingZeros d (set / 2)) 0 ∷ chosen (bitAnd (set / 2) (set / 2 - 1)) s)
+        → cond (eqb r 1) (x ∷ chosen (set / 2) s) (chosen (set / 2) s) ≡ getD (x ∷ s) (under r (trailingZeros d (set / 2))) 0 ∷ chosen (bitAnd set (set - 1)) (x ∷ s)
+    by zero e w l ih =
+        let o : 0 < set / 2 = omega arith in
+        let c : bitAnd set (set - 1) ≡ bitAnd (set / 2) (set / 2 - 1) * 2 = ap (λ (k : ℕ). bitAnd k (k - 1)) w ∙ clear-even (set / 2) o in
+        ih o (omega arith)
+        ∙ ap (λ (l : List ℕ). getD s (trailingZeros d (set / 2)) 0 ∷ l) (sym (ap (λ (k : ℕ). chosen k (x ∷ s)) c ∙ chosen-even (bitAnd (set / 2) (set / 2 - 1)) x s))
+    by (suc zero) e w l ih =
+        let c : bitAnd set (set - 1) ≡ set / 2 * 2 = ap (λ (k : ℕ). bitAnd k (k - 1)) w ∙ clear-odd (set / 2) in
+        ap (λ (l : List ℕ). x ∷ l) (sym (ap (λ (k : ℕ). chosen k (x ∷ s)) c ∙ chosen-even (set / 2) x s))
+    by (suc (suc r)) e w l ih = absurd (omega arith)
+
+-- a set whose lowest bit is past the table has none of its rules
+pub no-rule : (d set : ℕ) (s : List ℕ) → set < 2 ^ d → length s ≤ trailingZeros d set → chosen set s ≡ []
+unfolding trailingZeros
+no-rule d set [] h l = refl
+no-rule zero set (x ∷ s) h l = absurd (omega arith)
+no-rule (suc d) set (x ∷ s) h l =
+    let b : set / 2 < 2 ^ d = omega (arith, pow-suc 2 d) in
+    by (set % 2) l (λ f. no-rule d (set / 2) s b f)
+  where
+    by : (r : ℕ) → suc (length s) ≤ under r (trailingZeros d (set / 2)) → (length s ≤ trailingZeros d (set / 2) → chosen (set / 2) s ≡ []) → cond (eqb r 1) (x ∷ chosen (set / 2) s) (chosen (set / 2) s) ≡ []
+    by zero l ih = ih (omega arith)
+    by (suc r) l ih = absurd (omega arith)
+
+pub empty-set : (s : List ℕ) → chosen 0 s ≡ []
+empty-set [] = refl
+empty-set (x ∷ s) = empty-set s
+
+-- no rule is 0
+pub no-zero : (k : Kind) → every (ltb 0) (rulesOf k) ≡ true
+unfolding formRules paymentRules authRules summaryRules
+no-zero TranA = refl
+no-zero TranB = refl
+no-zero Form = refl
+no-zero Unknown = refl
+no-zero Payment = refl
+no-zero Auth = refl
+no-zero Summary = refl
+no-zero Recap = refl
+no-zero Stray = refl
+
+pub past-table : (s : List ℕ) (i : ℕ) → every (ltb 0) s ≡ true → getD s i 0 ≡ 0 → length s ≤ i
+past-table [] i a e = omega arith
+past-table (x ∷ s) zero a e = let h : 0 < x = ltb-true 0 x (both (ltb 0 x) (every (ltb 0) s) a .0) in absurd (omega arith)
+past-table (x ∷ s) (suc i) a e = let h : length s ≤ i = past-table s i (both (ltb 0 x) (every (ltb 0) s) a .1) e in omega arith
+
+pub in-table : (s : List ℕ) (i : ℕ) → (getD s i 0 ≡ 0 → ⊥) → i < length s
+in-table [] i h = absurd (h refl)
+in-table (x ∷ s) zero h = omega arith
+in-table (x ∷ s) (suc i) h = let g : i < length s = in-table s i h in omega arith
+
+-- ERROR RECORDS ONE AFTER THE OTHER
+
+errors-append : (ssn : Bytes) (n : ℕ) (xs ys : List Finding) → errorsFrom ssn n (xs ++ ys) ≡ errorsFrom ssn n xs ++ errorsFrom ssn (n + length xs) ys
+errors-append ssn n [] ys = let e : n ≡ n + 0 = omega arith in ap (λ (k : ℕ). errorsFrom ssn k ys) e
+errors-append ssn n (x ∷ xs) ys =
+    let e : n + 1 + length xs ≡ n + suc (length xs) = omega arith in
+    ap (λ (t : Bytes). errorOf ssn n x ++ t) (errors-append ssn (n + 1) xs ys ∙ ap (λ (k : ℕ). errorsFrom ssn (n + 1) xs ++ errorsFrom ssn k ys) e)
+    ∙ sym (append-assoc (errorOf ssn n x) (errorsFrom ssn (n + 1) xs) (errorsFrom ssn (n + suc (length xs)) ys))
+
+take-split : (k : ℕ) (xs ys : List Finding) → take k (xs ++ ys) ≡ take k xs ++ take (k - length (take k xs)) ys
+take-split zero xs ys = refl
+take-split (suc k) [] ys = let e : suc k ≡ suc k - 0 = omega arith in ap (λ (m : ℕ). take m ys) e
+take-split (suc k) (x ∷ xs) ys =
+    let e : k - length (take k xs) ≡ suc k - suc (length (take k xs)) = omega arith in
+    ap (λ (zs : List Finding). x ∷ zs) (take-split k xs ys ∙ ap (λ (m : ℕ). take k xs ++ take m ys) e)
+
+-- those of the findings xs, from the n-th on, that stand before the end-th, and then those of ys
+module _ (ssn : Bytes) (end n n' : ℕ) (xs ys : List Finding) (out out' e : Bytes) (c : n' ≡ n + length (take (end - n) xs)) where
+  pub more-laid : out' ≡ laid out (120 * n) (errorsFrom ssn n (take (end - n) xs)) → laid out (120 * n) (errorsFrom ssn n (take (end - n) (xs ++ ys))) ≡ e
+      → laid out' (120 * n') (errorsFrom ssn n' (take (end - n') ys)) ≡ e
+  more-laid o v =
+      let zs = take (end - n) xs in
+      let rest : end - n - length zs ≡ end - n' = omega arith in
+      let to : 120 * n' ≡ 120 * n + length (errorsFrom ssn n zs) = omega (arith, length-errorsFrom ssn n zs) in
+      (λ i. laid (o i) (to i) (errorsFrom ssn (c i) (take (end - n') ys)))
+      ∙ laid-append (errorsFrom ssn n zs) (errorsFrom ssn (n + length zs) (take (end - n') ys)) out (120 * n)
+      ∙ ap (laid out (120 * n)) (sym (errors-append ssn n zs (take (end - n') ys)))
+      ∙ ap (λ (l : List Finding). laid out (120 * n) (errorsFrom ssn n l)) (sym (take-split (end - n) xs ys ∙ ap (λ (m : ℕ). zs ++ take m ys) rest))
+      ∙ v
+
+  pub more-counted : (m : ℕ) → n + length (take (end - n) (xs ++ ys)) ≡ m → n' + length (take (end - n') ys) ≡ m
+  more-counted m v =
+      let zs = take (end - n) xs in
+      let rest : end - n - length zs ≡ end - n' = omega arith in
+      let l : length (take (end - n) (xs ++ ys)) ≡ length zs + length (take (end - n') ys) =
+      ap length (take-split (end - n) xs ys ∙ ap (λ (k : ℕ). zs ++ take k ys) rest) ∙ length-append zs (take (end - n') ys) in
+      omega arith
+
+none-laid : (ssn : Bytes) (n : ℕ) (xs : List Finding) (out e : Bytes) → xs ≡ [] → laid out (120 * n) (errorsFrom ssn n xs) ≡ e → out ≡ e
 unfolding laid
-laid-append [] t r at = rw add-zero
-laid-append (x ∷ s) t r at = rw (add-suc, ← suc-add) (laid-append s t (set r at x) (suc at))
+none-laid ssn n xs out e h v = sym (ap (λ (l : List Finding). laid out (120 * n) (errorsFrom ssn n l)) h) ∙ v
 
--- a text laid at the front of the k bytes from a place on, which are put back; for a caller that lends them
-pub lent-laid : (out x new : List ℕ) (to k : ℕ) → k ≡ length out - to → to + length x ≤ length out → new ≡ laid (take k (drop to out)) 0 x
-    → take to out ++ (new ++ drop k (drop to out)) ≡ laid out to x
-unfolding laid
-lent-laid out x new to k e f n =
-    let s = drop to out in
-    let l : length s ≡ k = length-drop to out ∙ sym e in
-    let whole : take k s ≡ s = take-all k s (le-of-eq l) in
-    let none : drop k s ≡ [] = drop-of-length-le s (le-of-eq l) in
-    let fits : 0 + length x ≤ length s = omega (arith, l) in
-    let mid : new ≡ x ++ drop (to + length x) out =
-    n ∙ ap (λ (r : List ℕ). laid r 0 x) whole ∙ sets-eq x s 0 fits ∙ ap (λ (r : List ℕ). x ++ r) (drop-drop (0 + length x) to out ∙ ap (λ (m : ℕ). drop (to + m) out) (zero-add (length x))) in
-    (λ i. take to out ++ (mid i ++ none i)) ∙ ap (λ (r : List ℕ). take to out ++ r) (append-nil (x ++ drop (to + length x) out))
-    ∙ sym (append-assoc (take to out) x (drop (to + length x) out)) ∙ sym (sets-eq x out to f)
+none-before : (end n : ℕ) (xs : List Finding) → end ≤ n → take (end - n) xs ≡ []
+none-before end n xs h = let z : end - n ≡ 0 = omega arith in ap (λ (k : ℕ). take k xs) z
 
--- The answers of the loop that lays the first n bytes of a text t, as many as there is room for in out from a place on
-pub put-start : (out t : List ℕ) (at : ℕ) → laid out (at + 0) (drop 0 t) ≡ laid out at t
-put-start out t at = rw add-zero
+take-none : (k : ℕ) (xs : List Finding) → xs ≡ [] → take k xs ≡ []
+take-none zero xs h = refl
+take-none (suc k) xs h = ap (take (suc k)) h
 
-module _ (out t e : List ℕ) (at i n : ℕ) (room : n ≡ min (length t) (length out - at)) (v : laid out (at + i) (drop i t) ≡ e) where
-  pub put-again : i < n → laid (set out (at + i) (getD t i 0)) (at + (i + 1)) (drop (i + 1) t) ≡ e
-  put-again h =
-      let k : at + (i + 1) ≡ at + i + 1 = omega arith in
-      ap (λ (m : ℕ). laid (set out (at + i) (getD t i 0)) m (drop (i + 1) t)) k ∙ lay-again t out e (at + i) i v (omega arith)
+-- THE ERROR RECORDS OF A ROW: of the record of kind k at the front of r, from the first-th on, for a set of its rules
 
-  pub put-end : n ≤ i → out ≡ e
-  put-end h = by (leb (length t) i) refl
-    where
-      by : (b : Bool) → leb (length t) i ≡ b → out ≡ e
-      by true q = lay-end t out e (at + i) i v (leb-true _ _ q)
-      by false q = let f : i < length t = leb-false (length t) i q in lay-past t out e (at + i) i (length out) v refl (omega arith)
+module _ (ssn r : Bytes) (k : Kind) (end : ℕ) where
+  abbrev pub rowFrom : ℕ → ℕ → List Finding
+  rowFrom n set = take (end - n) (map (mark k r) (chosen set (rulesOf k)))
 
--- THE FINDINGS OF A ROW
+  -- some are written, and n and what is left of the set say which are to come
+  pub record Going (out₀ out : Bytes) (first set n left : ℕ) : Type 0 where
+    pub within : n ≤ end
+    pub fits : left < 18446744073709551616
+    pub same : length out ≡ length out₀
+    pub counts : n + length (rowFrom n left) ≡ first + length (rowFrom first set)
+    pub lays : laid out (120 * n) (errorsFrom ssn n (rowFrom n left)) ≡ laid out₀ (120 * first) (errorsFrom ssn first (rowFrom first set))
 
-length-firsts : (n : ℕ) (row : List (List ℕ)) → length (firsts n row) ≡ n
-length-firsts zero row = refl
-length-firsts (suc n) row = ap suc (length-firsts n (drop 1 row))
+  module _ (out₀ out : Bytes) (first set n left : ℕ) (g : Going out₀ out first set n left) where
+    stops : rowFrom n left ≡ [] → (n ≡ first + length (rowFrom first set)) × (out ≡ laid out₀ (120 * first) (errorsFrom ssn first (rowFrom first set)))
+    stops h = let z : length (rowFrom n left) ≡ 0 = ap length h in (omega (arith, g .counts), none-laid ssn n (rowFrom n left) out _ h (g .lays))
+
+    pub row-full : end ≤ n → (n ≡ first + length (rowFrom first set)) × (out ≡ laid out₀ (120 * first) (errorsFrom ssn first (rowFrom first set)))
+    row-full h = stops (none-before end n _ h)
+
+    pub row-past : (rule : ℕ) → rule ≡ getD (rulesOf k) (trailingZeros 64 left) 0 → rule ≡ 0
+        → (n ≡ first + length (rowFrom first set)) × (out ≡ laid out₀ (120 * first) (errorsFrom ssn first (rowFrom first set)))
+    row-past rule e z =
+        stops (take-none (end - n) _ (ap (map (mark k r)) (no-rule 64 left (rulesOf k) (g .fits) (past-table (rulesOf k) (trailingZeros 64 left) (no-zero k) (sym e ∙ z)))))
+
+    pub row-done : left ≡ 0 → (n ≡ first + length (rowFrom first set)) × (out ≡ laid out₀ (120 * first) (errorsFrom ssn first (rowFrom first set)))
+    row-done z = stops (take-none (end - n) _ (ap (map (mark k r)) (ap (λ (s : ℕ). chosen s (rulesOf k)) z ∙ empty-set (rulesOf k))))
+
+    pub row-next : (rule : ℕ) (out' : Bytes) → rule ≡ getD (rulesOf k) (trailingZeros 64 left) 0 → (rule ≡ 0 → ⊥) → (left ≡ 0 → ⊥) → n < end → 120 * end ≤ length out₀
+        → out' ≡ placed out (120 * n) (errorRecord ssn n (field L4868 0 r) (typeAt k r) (bytes "00001") (occurrenceAt k r) rule)
+        → Going out₀ out' first set (n + 1) (bitAnd left (left - 1))
+    unfolding placed errorOf
+    row-next rule out' e nz nl h room o =
+        let p : 0 < left = omega arith in
+        let i : trailingZeros 64 left < length (rulesOf k) = in-table (rulesOf k) (trailingZeros 64 left) (λ z. nz (e ∙ z)) in
+        let x : Finding = mark k r rule in
+        let ys = map (mark k r) (chosen (bitAnd left (left - 1)) (rulesOf k)) in
+        let on : map (mark k r) (chosen left (rulesOf k)) ≡ x ∷ ys =
+        ap (map (mark k r)) (next-rule 64 left (rulesOf k) p (g .fits) i ∙ ap (λ (a : ℕ). a ∷ chosen (bitAnd left (left - 1)) (rulesOf k)) (sym e)) in
+        let s : end - n ≡ suc (end - (n + 1)) = omega arith in
+        let one : take (end - n) (x ∷ []) ≡ x ∷ [] = ap (λ (m : ℕ). take m (x ∷ [])) s ∙ take-nil' (end - (n + 1)) x in
+        let c : n + 1 ≡ n + length (take (end - n) (x ∷ [])) = sym (ap (λ (l : List Finding). n + length l) one) in
+        let f : 120 * n + 120 ≤ length out = omega (arith, g .same) in
+        let o' : out' ≡ laid out (120 * n) (errorsFrom ssn n (take (end - n) (x ∷ []))) =
+        o ∙ ap (λ (b : Bool). cond b (laid out (120 * n) (errorOf' rule)) out) (le-leb _ _ f) ∙ ap (laid out (120 * n)) (sym (append-nil (errorOf' rule)))
+        ∙ ap (λ (l : List Finding). laid out (120 * n) (errorsFrom ssn n l)) (sym one) in
+        record {
+          within = omega arith;
+          fits = omega (arith, g .fits, and-le-r left (left - 1));
+          same = ap length o' ∙ length-laid out (120 * n) _ ∙ g .same;
+          counts = more-counted ssn end n (n + 1) (x ∷ []) ys out out' out c _ (ap (λ (l : List Finding). n + length (take (end - n) l)) (sym on) ∙ g .counts);
+          lays = more-laid ssn end n (n + 1) (x ∷ []) ys out out' _ c o' (ap (λ (l : List Finding). laid out (120 * n) (errorsFrom ssn n (take (end - n) l))) (sym on) ∙ g .lays);
+        }
+      where
+        take-nil' : (m : ℕ) (y : Finding) → take (suc m) (y ∷ []) ≡ y ∷ []
+        take-nil' zero y = refl
+        take-nil' (suc m) y = refl
+
+        errorOf' : ℕ → Bytes
+        errorOf' rule = errorRecord ssn n (field L4868 0 r) (typeAt k r) (bytes "00001") (occurrenceAt k r) rule
+
+-- THE ERROR RECORDS OF THE ROWS
 
 pub firsts-take : (n : ℕ) (row : List (List ℕ)) → n ≤ length row → firsts n row ≡ take n row
 firsts-take zero row h = refl
 firsts-take (suc n) [] h = absurd (omega arith)
 firsts-take (suc n) (x ∷ row) h = ap (λ (r : List (List ℕ)). x ∷ r) (firsts-take n row (omega arith))
 
--- a finding, back from the three numbers that the row has of it
+getD-first : (row : List (List ℕ)) (i : ℕ) → getD (drop i row) 0 [] ≡ getD row i []
+getD-first row zero = refl
+getD-first [] (suc i) = refl
+getD-first (x ∷ row) (suc i) = getD-first row i
+
+module _ (ssn t : Bytes) (list : List (List ℕ)) (end rows : ℕ) where
+  abbrev pub rowsFrom : ℕ → ℕ → List Finding
+  rowsFrom n i = take (end - n) (foundFrom t (firsts (rows - i) (drop i list)))
+
+  -- i rows are written, and the next Error record is the n-th
+  pub record Rowing (out₀ out : Bytes) (n i : ℕ) : Type 0 where
+    pub within : n ≤ end
+    pub along : i ≤ rows
+    pub same : length out ≡ length out₀
+    pub lays : laid out (120 * n) (errorsFrom ssn n (rowsFrom n i)) ≡ laid out₀ 120 (errorsFrom ssn 1 (take (end - 1) (foundFrom t (firsts rows list))))
+
+  pub rows-start : (out : Bytes) → 1 ≤ end → Rowing out out 1 0
+  rows-start out h =
+      let z : rows - 0 ≡ rows = omega arith in
+      record {
+        within = omega arith;
+        along = omega arith;
+        same = refl;
+        lays = ap (λ (m : ℕ). laid out 120 (errorsFrom ssn 1 (take (end - 1) (foundFrom t (firsts m list))))) z;
+      }
+
+  module _ (out₀ out : Bytes) (n i : ℕ) (g : Rowing out₀ out n i) where
+    pub rows-next : (r : Bytes) (k : Kind) (n' : ℕ) (out' : Bytes) → i < rows → r ≡ drop (getD (getD list i []) 0 0) t → k ≡ kindAt (getD (getD list i []) 1 0)
+        → n' ≡ n + length (rowFrom ssn r k end n (getD (getD list i []) 2 0))
+        → out' ≡ laid out (120 * n) (errorsFrom ssn n (rowFrom ssn r k end n (getD (getD list i []) 2 0)))
+        → Rowing out₀ out' n' (i + 1)
+    unfolding foundIn
+    rows-next r k n' out' h er ek en eo =
+        let row = getD list i [] in
+        let xs = foundIn t row in
+        let ys = foundFrom t (firsts (rows - (i + 1)) (drop (i + 1) list)) in
+        let m : rows - i ≡ suc (rows - (i + 1)) = omega arith in
+        let here : firsts (rows - i) (drop i list) ≡ row ∷ firsts (rows - (i + 1)) (drop (i + 1) list) =
+        ap (λ (a : ℕ). firsts a (drop i list)) m ∙ (λ j. getD-first list i j ∷ firsts (rows - (i + 1)) (drop-drop 1 i list j)) in
+        let same-row : map (mark k r) (chosen (getD row 2 0) (rulesOf k)) ≡ xs = λ j. map (mark (ek j) (er j)) (chosen (getD row 2 0) (rulesOf (ek j))) in
+        let c : n' ≡ n + length (take (end - n) xs) = en ∙ ap (λ (l : List Finding). n + length (take (end - n) l)) same-row in
+        let o : out' ≡ laid out (120 * n) (errorsFrom ssn n (take (end - n) xs)) = eo ∙ ap (λ (l : List Finding). laid out (120 * n) (errorsFrom ssn n (take (end - n) l))) same-row in
+        record {
+          within = omega (arith, c, length-take (end - n) xs, g .within);
+          along = omega arith;
+          same = ap length o ∙ length-laid out (120 * n) _ ∙ g .same;
+          lays = more-laid ssn end n n' xs ys out out' _ c o (ap (λ (l : List (List ℕ)). laid out (120 * n) (errorsFrom ssn n (take (end - n) (foundFrom t l)))) (sym here) ∙ g .lays);
+        }
+
+    pub rows-done : rows ≤ i → out ≡ laid out₀ 120 (errorsFrom ssn 1 (take (end - 1) (foundFrom t (firsts rows list))))
+    rows-done h =
+        let z : rows - i ≡ 0 = omega arith in
+        none-laid ssn n (rowsFrom n i) out _ (take-none (end - n) _ (ap (λ (m : ℕ). foundFrom t (firsts m (drop i list))) z)) (g .lays)
+
+-- a finding's kind, back from the number that the row has of it
 pub kind-back : (k : Kind) → kindAt (kindNumber k) ≡ k
 unfolding kindAt
 kind-back TranA = refl
@@ -85,53 +300,41 @@ kind-back Summary = refl
 kind-back Recap = refl
 kind-back Stray = refl
 
-getD-first : (row : List (List ℕ)) (i : ℕ) → getD (drop i row) 0 [] ≡ getD row i []
-getD-first row zero = refl
-getD-first [] (suc i) = refl
-getD-first (x ∷ row) (suc i) = getD-first row i
+-- THE SET: a Key, and the Error records right after it
+module _ (main t date : Bytes) (j : Judgment) (list : List (List ℕ)) (out : Bytes) (n m : ℕ) (en : n ≡ min 96 (j .found .kept)) where
+  pub not-set : length out < 120 + 120 * n
+      → out ≡ cond (leb (120 + 120 * min 96 (j .found .kept)) (length out)) (laid out 0 (setAs main t date j list)) out
+  not-set h =
+      let f : length out < 120 + 120 * min 96 (j .found .kept) = omega arith in
+      ap (λ (b : Bool). cond b (laid out 0 (setAs main t date j list)) out) (sym (lt-leb _ _ f))
 
--- The answers of the loop that lays the Error records of the first n of a row of findings
-pub errors-start : (row : List (List ℕ)) (n : ℕ) → firsts (n - 0) (drop 0 row) ≡ firsts n row
-errors-start row n = let e : n - 0 ≡ n = omega arith in ap (λ (k : ℕ). firsts k row) e
+  pub set-laid : (ssn o o' : Bytes) → m ≡ min 96 (j .found .rows) → 120 + 120 * n ≤ length out
+      → ssn ≡ cond (j .known && digits (field L4868 90 main)) (field L4868 90 main) (bytes "000000000")
+      → o ≡ placed out 0 (keyOf main (j .known) date (j .letter) (j .facts) n (j .found .ath))
+      → o' ≡ laid o 120 (errorsFrom ssn 1 (take (n + 1 - 1) (foundFrom t (firsts m list))))
+      → o' ≡ cond (leb (120 + 120 * min 96 (j .found .kept)) (length out)) (laid out 0 (setAs main t date j list)) out
+  unfolding setAs orZeros placed
+  set-laid ssn o o' em h es ek eo =
+      let a = min 96 (j .found .kept) in
+      let f : 120 + 120 * a ≤ length out = omega arith in
+      let f' : 0 + 120 ≤ length out = omega arith in
+      let key = keyOf main (j .known) date (j .letter) (j .facts) a (j .found .ath) in
+      let xs = take a (foundFrom t (firsts (min 96 (j .found .rows)) list)) in
+      let s = orZeros (j .known) 9 (field L4868 90 main) in
+      let less : n + 1 - 1 ≡ a = omega arith in
+      let e : o ≡ laid out 0 key =
+      ek ∙ ap (λ (b : Bool). cond b (laid out 0 (keyOf main (j .known) date (j .letter) (j .facts) n (j .found .ath))) out) (le-leb _ _ f')
+      ∙ ap (λ (q : ℕ). laid out 0 (keyOf main (j .known) date (j .letter) (j .facts) q (j .found .ath))) en in
+      let l : 120 ≡ 0 + length key = omega (arith, length-keyOf main (j .known) date (j .letter) (j .facts) a (j .found .ath)) in
+      eo ∙ (λ i. laid (e i) (l i) (errorsFrom (es i) 1 (take (less i) (foundFrom t (firsts (em i) list)))))
+      ∙ laid-append key (errorsFrom s 1 xs) out 0
+      ∙ ap (λ (b : Bool). cond b (laid out 0 (setAs main t date j list)) out) (sym (le-leb _ _ f))
 
-module _ (ssn doc : Bytes) (row : List (List ℕ)) (n i : ℕ) (e out : Bytes) (v : laid out (120 + 120 * i) (errorsFrom ssn doc (i + 1) (map foundBy (firsts (n - i) (drop i row)))) ≡ e) where
-  pub errors-again : (q out' : Bytes) → i < n → q ≡ errorOf ssn doc (i + 1) (foundBy (getD row i [])) → out' ≡ laid out (120 + 120 * i) q
-      → laid out' (120 + 120 * (i + 1)) (errorsFrom ssn doc (i + 1 + 1) (map foundBy (firsts (n - (i + 1)) (drop (i + 1) row)))) ≡ e
-  errors-again q out' h eq eo =
-      let rest = errorsFrom ssn doc (i + 1 + 1) (map foundBy (firsts (n - (i + 1)) (drop (i + 1) row))) in
-      let m : n - i ≡ suc (n - (i + 1)) = omega arith in
-      let on : drop 1 (drop i row) ≡ drop (i + 1) row = drop-drop 1 i row in
-      let here : firsts (n - i) (drop i row) ≡ getD row i [] ∷ firsts (n - (i + 1)) (drop (i + 1) row) =
-      ap (λ (k : ℕ). firsts k (drop i row)) m ∙ (λ j. getD-first row i j ∷ firsts (n - (i + 1)) (on j)) in
-      let k : 120 + 120 * (i + 1) ≡ 120 + 120 * i + length q = omega (arith, ap length eq, length-errorOf ssn doc (i + 1) (foundBy (getD row i []))) in
-      ap (λ (o : Bytes). laid o (120 + 120 * (i + 1)) rest) eo
-      ∙ ap (λ (m : ℕ). laid (laid out (120 + 120 * i) q) m rest) k
-      ∙ laid-append q rest out (120 + 120 * i)
-      ∙ ap (λ (p : Bytes). laid out (120 + 120 * i) (p ++ rest)) eq
-      ∙ ap (λ (ys : List (List ℕ)). laid out (120 + 120 * i) (errorsFrom ssn doc (i + 1) (map foundBy ys))) (sym here)
-      ∙ v
-
-  pub errors-end : n ≤ i → out ≡ e
-  unfolding laid
-  errors-end h =
-      let z : n - i ≡ 0 = omega arith in
-      sym (ap (λ (k : ℕ). laid out (120 + 120 * i) (errorsFrom ssn doc (i + 1) (map foundBy (firsts k (drop i row))))) z) ∙ v
-
--- a Key, and the Error records right after it, are the set
-pub set-laid : (doc date : Bytes) (j : Judgment) (row : List (List ℕ)) (n : ℕ) (ssn key out o1 o2 : Bytes) → n ≡ min (j .found .kept) 96
-    → ssn ≡ cond (j .known && digits (field L4868 90 doc)) (field L4868 90 doc) (bytes "000000000")
-    → key ≡ keyOf doc (j .known) date (j .letter) (j .facts) n (j .found .ath)
-    → o1 ≡ laid out 0 key
-    → o2 ≡ laid o1 120 (errorsFrom ssn doc 1 (map foundBy (firsts n row)))
-    → o2 ≡ laid out 0 (setAs doc date j row)
-unfolding setAs orZeros
-set-laid doc date j row n ssn key out o1 o2 en es ek e1 e2 =
-    let xs = map foundBy (firsts (min (j .found .kept) 96) row) in
-    let c : n ≡ length xs = en ∙ sym (length-map (firsts (min (j .found .kept) 96) row) foundBy ∙ length-firsts (min (j .found .kept) 96) row) in
-    let key' = keyOf doc (j .known) date (j .letter) (j .facts) (length xs) (j .found .ath) in
-    let ssn' = orZeros (j .known) 9 (field L4868 90 doc) in
-    let q : key ≡ key' = ek ∙ ap (λ (k : ℕ). keyOf doc (j .known) date (j .letter) (j .facts) k (j .found .ath)) c in
-    let h : 120 ≡ 0 + length key' = omega (arith, length-keyOf doc (j .known) date (j .letter) (j .facts) (length xs) (j .found .ath)) in
-    e2 ∙ (λ i. laid (e1 i) 120 (errorsFrom (es i) doc 1 (map foundBy (firsts (en i) row)))) ∙ (λ i. laid (laid out 0 (q i)) (h i) (errorsFrom ssn' doc 1 xs))
-    ∙ laid-append key' (errorsFrom ssn' doc 1 xs) out 0
-    ∙ ap (laid out 0) (sym (set-parts doc doc (j .known) date (j .letter) (j .facts) xs (j .found .ath)))
+-- the set is the paper's, where the rows have the findings that are written
+pub set-said : (main t date : Bytes) (j : Judgment) (list : List (List ℕ)) (found : List Finding)
+    → take (min 96 (j .found .kept)) (foundFrom t (firsts (min 96 (j .found .rows)) list)) ≡ found → length found ≡ min 96 (j .found .kept)
+    → setAs main t date j list ≡ setBy main (j .known) date (j .letter) (j .facts) found (j .found .ath)
+unfolding setAs
+set-said main t date j list found e l =
+    (λ i. keyOf main (j .known) date (j .letter) (j .facts) (sym l i) (j .found .ath) ++ errorsFrom (orZeros (j .known) 9 (field L4868 90 main)) 1 (e i))
+    ∙ sym (set-parts main (j .known) date (j .letter) (j .facts) found (j .found .ath))

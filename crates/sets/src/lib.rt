@@ -1,37 +1,24 @@
 // A document's record set, written at the front of an output.
-use paper::Found;
 use paper::Judgment;
 use paper::Kind;
+use paper::Layout;
 ghost use mathlib.Core.Path.{_≡_};
-ghost use mathlib.Core.List.{[], map};
-ghost use Prim.Native.Nat.{_-_, _<_, _≤_, min};
-ghost use lib.ListN.{getD};
-ghost use Rattle.paper.specs.File.{laid, errorsFrom};
-ghost use Rattle.sets.specs.Set.{kindAt, foundBy, firsts, setAs};
+ghost use mathlib.Core.Bool.{cond};
+ghost use mathlib.Core.List.{map};
+ghost use Prim.Native.Nat.{_+_, _-_, _*_, _≤_, min};
+ghost use lib.Dec.{leb};
+ghost use lib.ListN.{length, take};
+ghost use Rattle.paper.specs.Bytes.{laid};
+ghost use Rattle.paper.specs.Conditions.{rulesOf};
+ghost use Rattle.paper.specs.Judge.{mark};
+ghost use Rattle.paper.specs.File.{errorsFrom};
+ghost use Rattle.rules.specs.Sets.{chosen};
+ghost use Rattle.sets.specs.Set.{kindAt, foundFrom, firsts, setAs};
 
-fn lesser(a: usize, b: usize) -> usize
-    ensures { λ r. ⌜ r ≡ min a b ⌝ }
+fn at_most_96(n: usize) -> usize
+    ensures { λ r. ⌜ (r ≡ min 96 n) × (r ≤ 96) ⌝ }
 {
-    if a < b { a } else { b }
-}
-
-// How many of so many bytes there are from a place on.
-fn room_from(room: usize, at: usize) -> usize
-    ensures { λ r. ⌜ r ≡ room - at ⌝ }
-{
-    if room < at { 0 } else { room - at }
-}
-
-// The text laid into out from a place on; what would stand past the last byte is left out.
-pub fn put(out: &mut [u8], at: usize, text: &[u8])
-    ensures { λ _. ⌜ now (out .exit) ≡ laid (now (out .entry)) at (now (text .entry)) ⌝ }
-{
-    let n = lesser(text.len(), room_from(out.len(), at));
-    let mut i: usize = 0;
-    while i < n {
-        out[at + i] = text[i];
-        i += 1;
-    }
+    if n < 96 { n } else { 96 }
 }
 
 // The kind of a number.
@@ -51,45 +38,105 @@ fn kind_at(number: usize) -> Kind
     }
 }
 
-// A finding of the list: its place, its kind's number and its rule.
-fn found_at(list: &[[usize; 3]; 96], i: usize) -> Found
-    requires { ⌜ i < 96 ⌝ }
-    ensures { λ r. ⌜ r ≡ foundBy (getD (now (list .entry)) i []) ⌝ }
+// The Error records of the rules of a set that the record at the front of r broke: their numbers start with first and stay below end. The
+// number after the last of them.
+fn put_row(
+    out: &mut [u8],
+    ssn: &[u8],
+    r: &[u8],
+    kind: Kind,
+    set: usize,
+    first: usize,
+    end: usize,
+) -> usize
+    requires { ⌜ (first ≤ end) × (end ≤ 97) × (120 * end ≤ length (now out)) ⌝ }
+    ensures { λ n. ⌜ n ≡ first + length (take (end - first) (map (mark kind (now (r .entry))) (chosen set (rulesOf kind)))) ⌝ }
+    ensures { λ _. ⌜ now (out .exit) ≡ laid (now (out .entry)) (120 * first) (errorsFrom (now (ssn .entry)) first (take (end - first) (map (mark kind (now (r .entry))) (chosen set (rulesOf kind))))) ⌝ }
 {
-    let place = list[i][0];
-    let number = list[i][1];
-    let rule = list[i][2];
-    Found {
-        place,
-        kind: kind_at(number),
-        rule: (rule % 4294967296) as u32,
+    let id = layout::field_of(Layout::L4868, 0, r);
+    let form = recordset::type_at(kind, r, b"      ");
+    let occurrence = recordset::occurrence_at(kind, r, b"0000001");
+    let mut n = first;
+    let mut left = set;
+    while left != 0 {
+        if end <= n {
+            return n;
+        }
+        let rule = rules::rule_at(kind, usize::trailing_zeros(left) as usize);
+        if rule == 0 {
+            return n;
+        }
+        record::put_error(
+            out,
+            120 * n,
+            ssn,
+            n as u32,
+            id,
+            form,
+            b"00001",
+            occurrence,
+            rule,
+        );
+        n += 1;
+        left = left & (left - 1);
     }
+    n
 }
 
-// The Error records of the first n findings of the list, after the Key.
-fn put_errors(out: &mut [u8], ssn: &[u8], doc: &[u8], n: usize, list: &[[usize; 3]; 96])
-    requires { ⌜ n ≤ 96 ⌝ }
-    ensures { λ _. ⌜ now (out .exit) ≡ laid (now (out .entry)) 120 (errorsFrom (now (ssn .entry)) (now (doc .entry)) 1 (map foundBy (firsts n (now (list .entry))))) ⌝ }
+// The Error records of the first rows of the list, after the Key: their numbers stay below end.
+fn put_errors(
+    out: &mut [u8],
+    ssn: &[u8],
+    t: &[u8],
+    rows: usize,
+    list: &[[usize; 3]; 96],
+    end: usize,
+)
+    requires { ⌜ (rows ≤ 96) × (1 ≤ end) × (end ≤ 97) × (120 * end ≤ length (now out)) ⌝ }
+    ensures { λ _. ⌜ now (out .exit) ≡ laid (now (out .entry)) 120 (errorsFrom (now (ssn .entry)) 1 (take (end - 1) (foundFrom (now (t .entry)) (firsts rows (now (list .entry)))))) ⌝ }
 {
+    let mut n: usize = 1;
     let mut i: usize = 0;
-    while i < n {
-        let x = found_at(list, i);
-        let e = recordset::error_of(ssn, doc, i as u32 + 1, x);
-        put(out, 120 + 120 * i, &e);
+    while i < rows {
+        let place = list[i][0];
+        let number = list[i][1];
+        let set = list[i][2];
+        let r = recordset::from(t, place);
+        n = put_row(out, ssn, r, kind_at(number), set, n, end);
         i += 1;
     }
 }
 
-// The record set of a document by its judgment and the list of its findings. The record that opens a document starts its bytes.
-pub fn put_set(out: &mut [u8], doc: &[u8], date: &[u8], j: Judgment, list: &[[usize; 3]; 96])
-    ensures { λ _. ⌜ now (out .exit) ≡ laid (now (out .entry)) 0 (setAs (now (doc .entry)) (now (date .entry)) j (now (list .entry))) ⌝ }
+// The record set of a document by its opening record, its judgment and the list of its findings, whose places are in the transmission t.
+// Where it does not fit, nothing is written.
+pub fn put_set(
+    out: &mut [u8],
+    main: &[u8],
+    t: &[u8],
+    date: &[u8],
+    j: Judgment,
+    list: &[[usize; 3]; 96],
+)
+    ensures { λ _. ⌜ now (out .exit) ≡ cond (leb (120 + 120 * min 96 (j .found .kept)) (length (now (out .entry)))) (laid (now (out .entry)) 0 (setAs (now (main .entry)) (now (t .entry)) (now (date .entry)) j (now (list .entry)))) (now (out .entry)) ⌝ }
 {
     let found = j.found;
     let facts = j.facts;
     let letter = j.letter;
-    let errors = lesser(found.kept, 96);
-    let ssn = recordset::shown(j.known, doc, 90, b"000000000");
-    let key = recordset::set_key(doc, j.known, date, letter, facts, errors as u32, found.ath);
-    put(out, 0, &key);
-    put_errors(out, ssn, doc, errors, list)
+    let errors = at_most_96(found.kept);
+    let rows = at_most_96(found.rows);
+    if out.len() < 120 + 120 * errors {
+        return;
+    }
+    let ssn = recordset::shown(j.known, main, 90, b"000000000");
+    recordset::put_set_key(
+        out,
+        main,
+        j.known,
+        date,
+        letter,
+        facts,
+        errors as u32,
+        found.ath,
+    );
+    put_errors(out, ssn, t, rows, list, errors + 1)
 }

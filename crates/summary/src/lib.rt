@@ -1,9 +1,16 @@
 // The rules of a summary: which of them a record breaks.
 use paper::Layout;
 ghost use mathlib.Core.Path.{_≡_};
+ghost use mathlib.Core.Bool.{_&&_, cond};
+ghost use mathlib.Core.List.{[], _∷_};
+ghost use Prim.Native.Nat.{ℕ, _/_, _%_};
+ghost use lib.Dec.{eqb};
+ghost use lib.ListN.{length, getD};
 ghost use Rattle.paper.specs.declared.Layout.the-variants.{L4868, LSummary};
+ghost use Rattle.paper.specs.Bytes.{present};
 ghost use Rattle.paper.specs.Layouts.{field};
-ghost use Rattle.paper.specs.Conditions.{summaryFillers, wrongOriginator, wrongYear, missingMark, notTime, summary0010, summaryHolds};
+ghost use Rattle.words.specs.Sets.{bitOn, bitsOn, bitsBy};
+ghost use Rattle.paper.specs.Conditions.{summaryFillers, wrongYear, missingMark, notTime, summaryHolds, summaryRules};
 
 fn field_of(n: u32, own: &[u8]) -> &[u8]
     ensures { λ p. ⌜ now p ≡ field LSummary n (now (own .entry)) ⌝ }
@@ -22,17 +29,6 @@ fn fillers(own: &[u8]) -> bool
     ensures { λ r. ⌜ r ≡ summaryFillers (now (own .entry)) ⌝ }
 {
     !text::blank(field_of(1, own)) | !text::blank(field_of(3, own))
-}
-
-// 0027: 0010 blank; 0020 not the third to eighth of the DCN.
-fn wrong_originator(n: u32, own: &[u8], form: &[u8]) -> bool
-    ensures { λ r. ⌜ r ≡ wrongOriginator n (now (own .entry)) (now (form .entry)) ⌝ }
-{
-    match n {
-        10 => text::blank(field_of(10, own)),
-        20 => !text::is_same(field_of(20, own), text::piece(of_form(8, form), 2, 6)),
-        _ => false,
-    }
 }
 
 // 0490: present, year not 2004.
@@ -64,33 +60,152 @@ fn not_time(f: &[u8]) -> bool
     !field::hhmm(f)
 }
 
-// 0010, by field.
-fn holds_0010(n: u32, own: &[u8]) -> bool
-    ensures { λ r. ⌜ r ≡ summary0010 n (now (own .entry)) ⌝ }
+// The rules on the head, 0010, 0020 and 0040, before later ones.
+fn of_head(form: &[u8], own: &[u8], later: u64) -> u64
+    ensures { λ r. ⌜ r ≡ bitsOn (λ (rule : ℕ). summaryHolds (rule / 10000) (rule % 10000) (now (form .entry)) (now (own .entry))) (45 ∷ 20004 ∷ 100027 ∷ 200010 ∷ 200027 ∷ 400010 ∷ []) later ⌝ }
 {
-    match n {
-        20 => !text::digits(field_of(20, own)),
-        40 => !text::digits(field_of(40, own)),
-        90 => !text::digits(field_of(90, own)),
-        260 => words::not_date(field_of(260, own)),
-        270 => not_time(field_of(270, own)),
-        280 => !words::one_of(b"ECGMPAH ", field_of(280, own)),
-        _ => false,
-    }
+    let set = words::and_rule(!text::digits(field_of(40, own)), later);
+    let set = words::and_rule(
+        !text::is_same(field_of(20, own), text::piece(of_form(8, form), 2, 6)),
+        set,
+    );
+    let set = words::and_rule(!text::digits(field_of(20, own)), set);
+    let set = words::and_rule(text::blank(field_of(10, own)), set);
+    let set = words::and_rule(
+        words::other_number(field_of(2, own), of_form(90, form)),
+        set,
+    );
+    words::and_rule(fillers(own), set)
 }
 
-// Whether the rule of this field and code is broken.
-pub fn holds(n: u32, code: u32, form: &[u8], own: &[u8]) -> bool
-    ensures { λ r. ⌜ r ≡ summaryHolds n code (now (form .entry)) (now (own .entry)) ⌝ }
+// A field in reserve is not blank, before later rules.
+fn and_reserve(n: u32, own: &[u8], later: u64) -> u64
+    ensures { λ r. ⌜ r ≡ bitOn (present (field LSummary n (now (own .entry)))) later ⌝ }
 {
-    match code {
-        4 => words::other_number(field_of(2, own), of_form(90, form)),
-        10 => holds_0010(n, own),
-        14 => !text::blank(field_of(n, own)),
-        27 => wrong_originator(n, own, form),
-        45 => fillers(own),
-        490 => wrong_year(field_of(260, own)),
-        491 => missing_mark(n, own),
-        _ => false,
+    words::and_rule(!text::blank(field_of(n, own)), later)
+}
+
+// The rules on 0050 to 0090, before later ones.
+fn of_50_to_90(form: &[u8], own: &[u8], later: u64) -> u64
+    ensures { λ r. ⌜ r ≡ bitsOn (λ (rule : ℕ). summaryHolds (rule / 10000) (rule % 10000) (now (form .entry)) (now (own .entry))) (500014 ∷ 550014 ∷ 600014 ∷ 630014 ∷ 700014 ∷ 750014 ∷ 800014 ∷ 900010 ∷ []) later ⌝ }
+{
+    let set = words::and_rule(!text::digits(field_of(90, own)), later);
+    let set = and_reserve(80, own, set);
+    let set = and_reserve(75, own, set);
+    let set = and_reserve(70, own, set);
+    let set = and_reserve(63, own, set);
+    let set = and_reserve(60, own, set);
+    let set = and_reserve(55, own, set);
+    and_reserve(50, own, set)
+}
+
+// The rules on 0100 to 0250, all in reserve, before later ones.
+fn of_reserves(form: &[u8], own: &[u8], later: u64) -> u64
+    ensures { λ r. ⌜ r ≡ bitsOn (λ (rule : ℕ). summaryHolds (rule / 10000) (rule % 10000) (now (form .entry)) (now (own .entry))) (1000014 ∷ 1100014 ∷ 1200014 ∷ 1300014 ∷ 1330014 ∷ 1350014 ∷ 1400014 ∷ 1500014 ∷ 1700014 ∷ 1800014 ∷ 1850014 ∷ 1880014 ∷ 1890014 ∷ 1900014 ∷ 1950014 ∷ 2000014 ∷ 2100014 ∷ 2150014 ∷ 2170014 ∷ 2190014 ∷ 2200014 ∷ 2500014 ∷ []) later ⌝ }
+{
+    let set = and_reserve(250, own, later);
+    let set = and_reserve(220, own, set);
+    let set = and_reserve(219, own, set);
+    let set = and_reserve(217, own, set);
+    let set = and_reserve(215, own, set);
+    let set = and_reserve(210, own, set);
+    let set = and_reserve(200, own, set);
+    let set = and_reserve(195, own, set);
+    let set = and_reserve(190, own, set);
+    let set = and_reserve(189, own, set);
+    let set = and_reserve(188, own, set);
+    let set = and_reserve(185, own, set);
+    let set = and_reserve(180, own, set);
+    let set = and_reserve(170, own, set);
+    let set = and_reserve(150, own, set);
+    let set = and_reserve(140, own, set);
+    let set = and_reserve(135, own, set);
+    let set = and_reserve(133, own, set);
+    let set = and_reserve(130, own, set);
+    let set = and_reserve(120, own, set);
+    let set = and_reserve(110, own, set);
+    and_reserve(100, own, set)
+}
+
+// The rules on 0260 to 0290, before later ones.
+fn of_260_to_290(form: &[u8], own: &[u8], later: u64) -> u64
+    ensures { λ r. ⌜ r ≡ bitsOn (λ (rule : ℕ). summaryHolds (rule / 10000) (rule % 10000) (now (form .entry)) (now (own .entry))) (2600010 ∷ 2600490 ∷ 2600491 ∷ 2700010 ∷ 2700491 ∷ 2800010 ∷ 2800491 ∷ 2900014 ∷ []) later ⌝ }
+{
+    let set = words::and_rule(!text::blank(field_of(290, own)), later);
+    let set = words::and_rule(missing_mark(280, own), set);
+    let set = words::and_rule(!words::one_of(b"ECGMPAH ", field_of(280, own)), set);
+    let set = words::and_rule(missing_mark(270, own), set);
+    let set = words::and_rule(not_time(field_of(270, own)), set);
+    let set = words::and_rule(missing_mark(260, own), set);
+    let set = words::and_rule(wrong_year(field_of(260, own)), set);
+    words::and_rule(words::not_date(field_of(260, own)), set)
+}
+
+// The set of the rules that a summary breaks, where both records have their length.
+pub fn broken(form: &[u8], own: &[u8]) -> u64
+    ensures { λ r. ⌜ r ≡ cond (eqb (length (now (form .entry))) 384 && eqb (length (now (own .entry))) 314) (bitsBy (λ (rule : ℕ). summaryHolds (rule / 10000) (rule % 10000) (now (form .entry)) (now (own .entry))) summaryRules) 0 ⌝ }
+{
+    if form.len() != 384 {
+        return 0;
+    }
+    if own.len() != 314 {
+        return 0;
+    }
+    let set = of_260_to_290(form, own, 0);
+    let set = of_reserves(form, own, set);
+    let set = of_50_to_90(form, own, set);
+    of_head(form, own, set)
+}
+
+// The rule at a place of the table.
+pub fn rule_at(i: usize) -> u32
+    ensures { λ r. ⌜ r ≡ getD summaryRules i 0 ⌝ }
+{
+    match i {
+        0 => 45,
+        1 => 20004,
+        2 => 100027,
+        3 => 200010,
+        4 => 200027,
+        5 => 400010,
+        6 => 500014,
+        7 => 550014,
+        8 => 600014,
+        9 => 630014,
+        10 => 700014,
+        11 => 750014,
+        12 => 800014,
+        13 => 900010,
+        14 => 1000014,
+        15 => 1100014,
+        16 => 1200014,
+        17 => 1300014,
+        18 => 1330014,
+        19 => 1350014,
+        20 => 1400014,
+        21 => 1500014,
+        22 => 1700014,
+        23 => 1800014,
+        24 => 1850014,
+        25 => 1880014,
+        26 => 1890014,
+        27 => 1900014,
+        28 => 1950014,
+        29 => 2000014,
+        30 => 2100014,
+        31 => 2150014,
+        32 => 2170014,
+        33 => 2190014,
+        34 => 2200014,
+        35 => 2500014,
+        36 => 2600010,
+        37 => 2600490,
+        38 => 2600491,
+        39 => 2700010,
+        40 => 2700491,
+        41 => 2800010,
+        42 => 2800491,
+        43 => 2900014,
+        _ => 0,
     }
 }

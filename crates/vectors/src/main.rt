@@ -4,8 +4,7 @@ ghost use mathlib.Core.Path.{_≡_};
 ghost use mathlib.Core.List.{_++_};
 ghost use lib.ListN.{replicate};
 ghost use Rattle.io.specs.Counts.{Counts};
-ghost use Rattle.paper.specs.Bytes.{bytes, written};
-ghost use Rattle.paper.specs.File.{laid};
+ghost use Rattle.paper.specs.Bytes.{bytes, written, laid};
 ghost use Rattle.vectors.specs.Paths.{pathOf};
 
 const CASES: usize = 145;
@@ -28,8 +27,8 @@ fn path_of(i: usize, part: &[u8]) -> [u8; 16]
 {
     let mut path = [0u8; 16];
     let folder = folder_of(i);
-    sets::put(&mut path, 0, &folder);
-    sets::put(&mut path, 4, part);
+    text::lay(&mut path, 0, &folder);
+    text::lay(&mut path, 4, part);
     path
 }
 

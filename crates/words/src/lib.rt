@@ -1,6 +1,10 @@
 // The words of document 01's conditions, over a field: each says whether the field is at fault.
 ghost use mathlib.Core.Path.{_≡_};
-ghost use Rattle.paper.specs.Conditions.{notDigits, notX, notDate, notPositive, notPin, oneOf, otherNumber, wrongPage, notAbove, notDouble0, notYear4, noNumber, unlisted, wrongAnd, late, wrongPayDate};
+ghost use Prim.Native.Nat.{_-_, _≤_};
+ghost use lib.ListN.{length, take};
+ghost use Rattle.paper.specs.Bytes.{bit, number};
+ghost use Rattle.paper.specs.Conditions.{notDigits, notX, notDate, notPositive, notPin, oneOf, otherNumber, wrongPage, notDouble0, notYear4, noNumber, unlisted, wrongAnd, late, wrongPayDate};
+ghost use Rattle.words.specs.Sets.{bitOn};
 
 // 0010: present but not digits.
 pub fn not_digits(f: &[u8]) -> bool
@@ -67,13 +71,6 @@ pub fn wrong_page(f: &[u8]) -> bool
     !text::is_same(f, b"PG01 ")
 }
 
-// 0060, 0061: digits, and not above the earlier one.
-pub fn not_above(f: &[u8], earlier: &[u8]) -> bool
-    ensures { λ r. ⌜ r ≡ notAbove (now (f .entry)) (now (earlier .entry)) ⌝ }
-{
-    text::digits(f) & !text::is_before(earlier, f)
-}
-
 // 0062: digits, first two not 00.
 pub fn not_double_0(f: &[u8]) -> bool
     ensures { λ r. ⌜ r ≡ notDouble0 (now (f .entry)) ⌝ }
@@ -126,4 +123,45 @@ pub fn wrong_pay_date(f: &[u8]) -> bool
     ensures { λ r. ⌜ r ≡ wrongPayDate (now (f .entry)) ⌝ }
 {
     !date::valid_date(f) | late(f)
+}
+
+fn value_of(x: u8) -> u64
+    ensures { λ r. ⌜ (r ≡ x - 48) × (r ≤ 207) ⌝ }
+{
+    if 48 <= x { (x - 48) as u64 } else { 0 }
+}
+
+// The number that up to 16 digits write.
+fn value(s: &[u8]) -> u64
+    requires { ⌜ length (now s) ≤ 16 ⌝ }
+    ensures { λ r. ⌜ (r ≡ number (now (s .entry))) × (r ≤ 229999999999999977) ⌝ }
+{
+    let mut n: u64 = 0;
+    let mut i = 0;
+    while i < s.len() {
+        n = n * 10 + value_of(s[i]);
+        i += 1;
+    }
+    n
+}
+
+// The number that the first 16 digits write.
+pub fn number_of(s: &[u8]) -> u64
+    ensures { λ r. ⌜ r ≡ number (take 16 (now (s .entry))) ⌝ }
+    ensures { λ r. ⌜ r ≤ 229999999999999977 ⌝ }
+{
+    value(text::piece(s, 0, 16))
+}
+
+fn one_if(b: bool) -> u64
+    ensures { λ n. ⌜ (n ≡ bit b) × (n ≤ 1) ⌝ }
+{
+    if b { 1 } else { 0 }
+}
+
+// A rule before the later ones of a set.
+pub fn and_rule(is_broken: bool, later: u64) -> u64
+    ensures { λ r. ⌜ r ≡ bitOn «is_broken» later ⌝ }
+{
+    later % 9223372036854775808 * 2 + one_if(is_broken)
 }

@@ -1,4 +1,3 @@
-use denote.Ref.{now}
 use Rattle.ack.proofs.Ways.{coded-as, left-as}
 use borrow.Author.Needs.{needs}
 use Rattle.ack.proofs.bluffcradle_acknowledge.Statement.{statement}

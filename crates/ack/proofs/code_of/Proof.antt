@@ -1,5 +1,4 @@
 use Rattle.ack.proofs.Ways.{coded-file, coded-refused}
-use denote.Ref.{now}
 use borrow.Author.Needs.{needs}
 use Rattle.ack.proofs.code_of.Statement.{statement}
 use Rattle.ack.proofs.code_of.Tie as tie

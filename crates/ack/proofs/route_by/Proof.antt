@@ -1,6 +1,5 @@
 use mathlib.Core.Path.{sym}
 use Rattle.ack.specs.Ties.{routeBy}
-use denote.Ref.{now}
 use borrow.Author.Needs.{needs}
 use Rattle.ack.proofs.route_by.Statement.{statement}
 use Rattle.ack.proofs.route_by.Tie as tie

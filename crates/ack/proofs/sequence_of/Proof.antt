@@ -13,4 +13,4 @@ sequence-of-spec =
     (λ c κs. search needs)
     (λ c.
     let s = c .before .before .before .before in
-    padded (now (s .args .twelve)) (c .before .put .last .0) 12 (s .pre) (c .before .put .ensures) refl))
+    padded (now (s .args .twelve)) (c .before .lay .last .0) 12 (s .pre) (c .before .lay .ensures) refl))

@@ -1,16 +1,14 @@
-use Rattle.paper.specs.Conditions.{wrongCity}
-use Rattle.paper.proofs.Flow.{and-skip, flow}
 use borrow.Author.Needs.{needs}
+use borrow.Author.Tests.{not-true, not-false}
+use mathlib.Core.Bool.{not}
+use mathlib.Core.Path.{ap}
 use Rattle.form.proofs.wrong_city.Statement.{statement}
 use Rattle.form.proofs.wrong_city.Tie as tie
 
 pub wrong-city-spec : {M : Type 1} → statement M
-unfolding wrongCity
 wrong-city-spec =
     tie.close
     (tie.spec
+    (λ c. rw (not-true (c .before .before .args .judged) (c .if1 .taken)))
     (λ c κs. search needs)
-    (λ c. search flow)
-    (λ c κs. search needs)
-    (λ c κs. search needs)
-    (λ c. and-skip _ _ _ _ (c .before .before .before .is-addressed .ensures) (c .before .before .if1 .left) (cc)))
+    (λ c. rw (not-false (c .before .before .before .args .judged) (c .before .if1 .left)) (ap not (c .city .ensures))))

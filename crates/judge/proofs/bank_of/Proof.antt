@@ -1,6 +1,6 @@
 use Rattle.paper.proofs.Flow.{by-true, by-false}
-use borrow.Author.Needs.{needs}
 use Rattle.judge.specs.Judged.{bankFor}
+use borrow.Author.Needs.{needs}
 use Rattle.judge.proofs.bank_of.Statement.{statement}
 use Rattle.judge.proofs.bank_of.Tie as tie
 

@@ -1,24 +1,18 @@
-use mathlib.Core.Path.{_≡_, ap, _∙_}
-use mathlib.Core.Bool.{true}
-use Prim.Native.Nat.{_+_, _≤_}
+use mathlib.Core.Path.{_≡_, refl, sym, ap, _∙_}
+use mathlib.Core.Bool.{true, false}
 use native.Mathlib.Omega.{arith}
+use borrow.Author.Tests.{not-true, not-false}
 use denote.Ref.{now}
-use lib.ListN.{length, drop}
+use lib.ListN.{length}
+use Rattle.paper.specs.declared.Kind.{Kind}
+use Rattle.paper.specs.declared.Kind.the-variants.{Form}
+use Rattle.paper.specs.Walk.{is}
+use Rattle.judge.specs.Judged.{searched}
+use Rattle.judge.proofs.Found.{form-size}
+use Rattle.judge.proofs.Whole.{first-kind, known-as, first-part, other-judged, form-judged}
 use borrow.Author.Needs.{needs}
-use Rattle.paper.specs.Judge.{known}
-use Rattle.walk.specs.Parts.{docHere}
-use Rattle.judge.specs.Kept.{listed}
-use Rattle.judge.proofs.Kept.{held-counted, held-listed}
-use Rattle.judge.proofs.Seen.{known-is, form-size, known-fits}
-use Rattle.judge.proofs.Whole.{judged-form, listed-form, judged-other, listed-other}
 use Rattle.judge.proofs.judge.Statement.{statement}
 use Rattle.judge.proofs.judge.Tie as tie
-
-is-known : (c : tie.Then1) → known (docHere (drop (c .before .before .before .before .before .before .before .before .before .before .before .before .before .args .at) (now (c .before .before .before .before .before .before .before .before .before .before .before .before .before .args .t)))) ≡ true
-is-known c =
-    let f = c .before .before .before .before .before in
-    let a = f .before .before .before .before .before .before .before .before .args in
-    known-is (now (a .t)) (a .at) _ _ _ _ (f .first-of .ensures) (c .before .before .before .before .kind-of .ensures) (c .before .is-form .ensures) (c .if1 .taken)
 
 pub judge-spec : {M : Type 1} → statement M
 judge-spec =
@@ -26,48 +20,15 @@ judge-spec =
     (tie.spec
     (λ c κs. search needs)
     (λ c κs. search needs)
+    (λ c κs. sym (c .before .before .is-form .ensures) ∙ not-true _ (c .before .if1 .taken))
     (λ c κs. search needs)
-    (λ c κs. search needs)
-    (λ c κs. search needs)
-    (λ c κs. search needs)
-    (λ c κs.
-    let i = c .before in
-    let f = i .before .before .before .before .before in
-    let a = f .before .before .before .before .before .before .before .before .args in
-    let n : length (now (f .first-of .result)) ≡ 384 = form-size (now (a .t)) (a .at) _ (is-known i) (f .first-of .ensures) in
-    let h : a .at + 384 ≤ length (now (a .t)) = known-fits (now (a .t)) (a .at) (is-known i) in
-    (omega arith, omega arith))
-    (λ c κs. search needs)
-    (λ c.
-    let g = c .before in
-    let i = g .before .before in
-    let f = i .before .before .before .before .before in
-    let a = f .before .before .before .before .before .before .before .before .args in
-    let e = g .of-form .ensures in
-    let n = held-counted (now (a .list)) _ _ (g .of-form .result) e in (
-      judged-form (now (a .t)) (now (a .taxpayers)) (now (a .banks)) (now (a .filed)) (now (a .states)) (now (a .date)) (a .at) (a .past) _ _ _ _ _ _
-          (is-known i) (f .before .document .ensures) (f .first-of .ensures) (i .before .before .before .at-place .ensures) (i .before .before .at-place2 .ensures) n (c .letter-of .ensures),
-      held-listed (now (a .list)) _ _ (g .of-form .result) e
-          ∙ ap (listed (now (a .list))) (listed-form (now (a .t)) (now (a .taxpayers)) (now (a .banks)) (now (a .filed)) (now (a .states)) (now (a .date)) (a .at) (a .past) _ _ _ _ _ _
-          (is-known i) (f .before .document .ensures) (f .first-of .ensures) (i .before .before .before .at-place .ensures) (i .before .before .at-place2 .ensures) n (c .letter-of .ensures)),
-    ))
+    (λ c. let a = c .before .before .before .before .before .before .before .before .before .before .before .before .before .before .before .args in let r = other-judged (now (a .t)) (now (a .date)) (a .at) (a .past) (now (a .row)) (searched (now (a .taxpayers)) (now (a .banks)) (now (a .filed)) (now (a .states))) (c .before .before .before .before .before .before .before .document .result) (c .before .before .before .before .before .before .before .document .ensures) (known-as (now (a .t)) (a .at) (c .before .before .before .before .before .before .before .document .result) (c .before .before .before .before .before .before .before .document .ensures) (c .before .before .before .before .is-form .result) false (c .before .before .before .before .is-form .ensures) (not-true _ (c .before .before .before .if1 .taken))) _ (c .before .of-other .result) _ (now (a .list)) _ (first-kind (now (a .t)) (a .at) (c .before .before .before .before .before .before .before .document .result) (c .before .before .before .before .before .before .before .document .ensures)) (c .before .of-other .ensures) (c .letter-by .ensures) in (r .0, (r .1, r .2)))
+    (λ c. let a = c .before .before .before .before .before .before .before .before .before .before .before .before .before .args in let f = first-part (now (a .t)) (a .at) (c .before .before .before .before .before .document .result) (c .before .before .before .before .before .document .ensures) (known-as (now (a .t)) (a .at) (c .before .before .before .before .before .document .result) (c .before .before .before .before .before .document .ensures) (c .before .before .is-form .result) true (c .before .before .is-form .ensures) (not-false _ (c .before .if1 .left))) in omega (arith, f .0))
     (λ c. search needs)
     (λ c. search needs)
+    (λ c. let a = c .before .before .before .before .before .before .before .before .before .before .before .before .before .args in let f = first-part (now (a .t)) (a .at) (c .before .before .before .before .before .document .result) (c .before .before .before .before .before .document .ensures) (known-as (now (a .t)) (a .at) (c .before .before .before .before .before .document .result) (c .before .before .before .before .before .document .ensures) (c .before .before .is-form .result) true (c .before .before .is-form .ensures) (not-false _ (c .before .if1 .left))) in omega (arith, f .0))
+    (λ c κs. let a = c .before .before .before .before .before .before .before .before .before .before .before .before .before .before .before .args in let k = known-as (now (a .t)) (a .at) (c .before .before .before .before .before .before .before .document .result) (c .before .before .before .before .before .before .before .document .ensures) (c .before .before .before .before .is-form .result) true (c .before .before .before .before .is-form .ensures) (not-false _ (c .before .before .before .if1 .left)) in (c .before .before .before .before .before .before .before .document .ensures, k, first-part (now (a .t)) (a .at) (c .before .before .before .before .before .before .before .document .result) (c .before .before .before .before .before .before .before .document .ensures) k .1))
+    (λ c κs. let a = c .before .before .before .before .before .before .before .before .before .before .before .before .before .before .before .before .before .args in let k = known-as (now (a .t)) (a .at) (c .before .before .before .before .before .before .before .before .before .document .result) (c .before .before .before .before .before .before .before .before .before .document .ensures) (c .before .before .before .before .before .before .is-form .result) true (c .before .before .before .before .before .before .is-form .ensures) (not-false _ (c .before .before .before .before .before .if1 .left)) in form-size (now (a .t)) (a .at) (c .before .before .before .before .before .before .before .before .before .document .result) _ (c .before .before .before .before .before .before .before .before .before .document .ensures) k (first-part (now (a .t)) (a .at) (c .before .before .before .before .before .before .before .before .before .document .result) (c .before .before .before .before .before .before .before .before .before .document .ensures) k .1))
+    (λ c κs. let a = c .before .before .before .before .before .before .before .before .before .before .before .before .before .before .before .before .before .before .before .args in let k = known-as (now (a .t)) (a .at) (c .before .before .before .before .before .before .before .before .before .before .before .document .result) (c .before .before .before .before .before .before .before .before .before .before .before .document .ensures) (c .before .before .before .before .before .before .before .before .is-form .result) true (c .before .before .before .before .before .before .before .before .is-form .ensures) (not-false _ (c .before .before .before .before .before .before .before .if1 .left)) in form-size (now (a .t)) (a .at) (c .before .before .before .before .before .before .before .before .before .before .before .document .result) _ (c .before .before .before .before .before .before .before .before .before .before .before .document .ensures) k (first-part (now (a .t)) (a .at) (c .before .before .before .before .before .before .before .before .before .before .before .document .result) (c .before .before .before .before .before .before .before .before .before .before .before .document .ensures) k .1))
     (λ c. search needs)
-    (λ c κs. search needs)
-    (λ c κs. search needs)
-    (λ c.
-    let g = c .before in
-    let i = g .before .before .before in
-    let f = i .before .before .before .before .before in
-    let a = f .before .before .before .before .before .before .before .before .args in
-    let k = i .before .before .before .before .kind-of in
-    let no = known-is (now (a .t)) (a .at) _ _ _ _ (f .first-of .ensures) (k .ensures) (i .before .is-form .ensures) (i .if1 .left) in
-    let e = g .of-first .ensures in
-    let n = held-counted (now (a .list)) _ _ (g .of-first .result) e in (
-      judged-other (now (a .t)) (now (a .taxpayers)) (now (a .banks)) (now (a .filed)) (now (a .states)) (now (a .date)) (a .at) (a .past) _ _ _ _ _ _ _
-          no (f .before .document .ensures) (f .first-of .ensures) (k .ensures) (i .before .before .before .at-place .ensures) (i .before .before .at-place2 .ensures) n (c .letter-of2 .ensures),
-      held-listed (now (a .list)) _ _ (g .of-first .result) e
-          ∙ ap (listed (now (a .list))) (listed-other (now (a .t)) (now (a .taxpayers)) (now (a .banks)) (now (a .filed)) (now (a .states)) (now (a .date)) (a .at) (a .past) _ _ _ _ _ _ _
-          no (f .before .document .ensures) (f .first-of .ensures) (k .ensures) (i .before .before .before .at-place .ensures) (i .before .before .at-place2 .ensures) n (c .letter-of2 .ensures)),
-    )))
+    (λ c. let a = c .before .before .before .before .before .before .before .before .before .before .before .before .before .before .before .before .before .before .before .before .before .before .args in let k = known-as (now (a .t)) (a .at) (c .before .before .before .before .before .before .before .before .before .before .before .before .before .before .document .result) (c .before .before .before .before .before .before .before .before .before .before .before .before .before .before .document .ensures) (c .before .before .before .before .before .before .before .before .before .before .before .is-form .result) true (c .before .before .before .before .before .before .before .before .before .before .before .is-form .ensures) (not-false _ (c .before .before .before .before .before .before .before .before .before .before .if1 .left)) in let r = form-judged (now (a .t)) (now (a .taxpayers)) (now (a .banks)) (now (a .filed)) (now (a .states)) (now (a .date)) (a .at) (a .past) (now (a .row)) (c .before .before .before .before .before .before .before .before .before .before .before .before .before .before .document .result) (c .before .before .before .before .before .before .before .before .before .before .before .before .before .before .document .ensures) k _ (c .before .before .before .before .before .before .of-form .result) _ _ _ (now (a .list)) _ (first-part (now (a .t)) (a .at) (c .before .before .before .before .before .before .before .before .before .before .before .before .before .before .document .result) (c .before .before .before .before .before .before .before .before .before .before .before .before .before .before .document .ensures) k .1) (c .before .before .before .before .before .before .of-form .ensures) (c .before .before .before .before .letter-of .ensures) (c .before .before .pass .ensures .0) (c .before .before .pass .ensures .1) in (r .0, (r .1, r .2))))

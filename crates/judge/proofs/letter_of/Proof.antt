@@ -1,8 +1,13 @@
 use mathlib.Core.Path.{_∙_, ap, sym}
-use Rattle.paper.specs.Judge.{letterBy}
 use mathlib.Core.Bool.{true}
-use borrow.Author.Needs.{needs}
+use native.Mathlib.Omega.{arith}
+use lib.ListN.{length, take}
+use Rattle.judge.specs.Seen.{numbersIn}
+use denote.Ref.{now}
+use Rattle.paper.specs.Judge.{letterBy}
+use Rattle.judge.proofs.Seen.{form-wide}
 use Rattle.judge.proofs.Whole.{letter-r, letter-filed, letter-rest}
+use borrow.Author.Needs.{needs}
 use Rattle.judge.proofs.letter_of.Statement.{statement}
 use Rattle.judge.proofs.letter_of.Tie as tie
 
@@ -10,14 +15,10 @@ pub letter-of-spec : {M : Type 1} → statement M
 letter-of-spec =
     tie.close
     (tie.spec
-    (λ c. letter-r _ _ _ _ _ (c .if1 .taken))
+    (λ c. letter-r _ _ (c .if1 .taken))
     (λ c κs. search needs)
     (λ c κs. search needs)
-    (λ c. letter-filed _ _ _ _ _ _ _ (c .before .before .before .if1 .left) (c .before .before .field-of .ensures) (c .before .line-of .ensures) (c .if2 .taken))
-    (λ c κs. search needs)
-    (λ c.
-    let l = c .before .before .before in
-    ap (letterBy true) (sym (c .if3 .taken)) ∙ letter-rest _ _ _ _ _ _ _ (l .before .before .if1 .left) (l .before .field-of .ensures) (l .line-of .ensures) _ (c .before .before .if2 .left) (c .before .is-accepted .ensures))
-    (λ c.
-    let l = c .before .before .before in
-    ap (letterBy true) (sym (c .if3 .left)) ∙ letter-rest _ _ _ _ _ _ _ (l .before .before .if1 .left) (l .before .field-of .ensures) (l .line-of .ensures) _ (c .before .before .if2 .left) (c .before .is-accepted .ensures)))
+    (λ c. letter-filed _ _ _ _ _ (numbersIn (take (c .before .before .before .before .before .before .before .args .past .n) (now (c .before .before .before .before .before .before .before .args .row)))) (c .before .before .before .if1 .left) (c .before .before .field-of .ensures) (c .before .line-of .ensures) (c .if2 .taken))
+    (λ c κs. ap length (c .before .before .field-of .ensures) ∙ form-wide (now (c .before .before .before .before .before .before .before .args .form)) (c .before .before .before .before .before .before .before .pre) .2)
+    (λ c. ap (letterBy true) (sym (c .if3 .taken)) ∙ letter-rest _ _ _ _ _ (numbersIn (take (c .before .before .before .before .before .before .before .before .before .args .past .n) (now (c .before .before .before .before .before .before .before .before .before .args .row)))) (c .before .before .before .before .before .if1 .left) (c .before .before .before .before .field-of .ensures) (c .before .before .before .line-of .ensures) _ (c .before .before .if2 .left) (c .before .is-accepted .ensures))
+    (λ c. ap (letterBy true) (sym (c .if3 .left)) ∙ letter-rest _ _ _ _ _ (numbersIn (take (c .before .before .before .before .before .before .before .before .before .args .past .n) (now (c .before .before .before .before .before .before .before .before .before .args .row)))) (c .before .before .before .before .before .if1 .left) (c .before .before .before .before .field-of .ensures) (c .before .before .before .line-of .ensures) _ (c .before .before .if2 .left) (c .before .is-accepted .ensures)))

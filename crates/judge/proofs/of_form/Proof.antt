@@ -1,14 +1,9 @@
-use native.Mathlib.Omega.{arith}
-use mathlib.Core.List.{[]}
-use Prim.Native.Nat.{_+_}
-use lib.ListN.{length, drop}
 use denote.Ref.{now}
-use Rattle.paper.specs.declared.Kind.the-variants.{Form}
-use Rattle.paper.specs.Pack.{linesIn}
-use Rattle.paper.specs.Walk.{records}
-use Rattle.paper.specs.Conditions.{sight, view}
+use Rattle.judge.specs.Kept.{held}
+use Rattle.judge.proofs.Kept.{none-few}
+use Rattle.judge.proofs.Found.{form-size}
+use Rattle.judge.proofs.Whole.{form-found}
 use borrow.Author.Needs.{needs}
-use Rattle.judge.proofs.Whole.{first-few, form-found}
 use Rattle.judge.proofs.of_form.Statement.{statement}
 use Rattle.judge.proofs.of_form.Tie as tie
 
@@ -23,22 +18,12 @@ of-form-spec =
     (λ c κs. search needs)
     (λ c κs. search needs)
     (λ c κs. search needs)
-    (λ c κs.
-    let f = c .before in
-    let z = f .before .before in
-    let s = z .before .before in
-    let p = s .before .before in
-    let g = p .before .before .before .before .before .before .before .before .before .before in
-    let a = g .args in
-    let v = view (sight (now (a .form)) (now (p .line-of .result)) (now (s .line-of2 .result)) (linesIn 8 (now (z .rows-of .result))) (now (a .dsn)) (now (a .dcn)) (now (a .date)) (a .whole)) (now (a .form)) [] 0 0 in
-    let few = first-few Form v (now (a .list)) _ (f .of-first .result) (f .of-first .ensures) in
-    (g .pre .0, omega (arith, g .pre .1)))
+    (λ c κs. search needs)
+    (λ c κs. none-few _ (c .before .no-findings .ensures))
+    (λ c κs. let q = c .before .before .before .before .before .before .before .before .before .before .before .before .before .before .before .before .before .pre in let f = c .before .collected .ensures .1 in (q .0, q .1, q .2, f .0, f .1))
     (λ c.
-    let f = c .before .before in
-    let z = f .before .before in
-    let s = z .before .before in
-    let p = s .before .before in
-    let a = p .before .before .before .before .before .before .before .before .before .before .args in
-    form-found (now (a .form)) (now (a .taxpayers)) (now (a .banks)) (now (a .states)) (now (a .dsn)) (now (a .dcn)) (now (a .date)) (a .whole)
-    (records (drop (a .at + length (now (a .form))) (now (a .t)))) _ _ _ _ _ _ (now (a .list)) _ _ (p .before .field-of .ensures) (p .line-of .ensures) (s .before .field-of2 .ensures) (s .line-of2 .ensures)
-    (z .before .field-of3 .ensures) (z .rows-of .ensures) (f .of-first .ensures) (c .with-others .ensures)))
+    let a = c .before .before .before .before .before .before .before .before .before .before .before .before .before .before .before .before .before .before .args in
+    let q = c .before .before .before .before .before .before .before .before .before .before .before .before .before .before .before .before .before .before .pre in
+    form-found (now (a .t)) (a .at) (now (a .form)) (now (a .taxpayers)) (now (a .banks)) (now (a .states)) (now (a .date)) (a .past) (a .doc .facts) (q .1) (q .2) _ _ _ _ _ _ _ (now (a .list)) _ _ _
+    (c .before .before .before .before .before .before .before .before .before .before .before .field-of .ensures) (c .before .before .before .before .before .before .before .before .before .before .line-of .ensures) (c .before .before .before .before .before .before .before .before .before .field-of2 .ensures) (c .before .before .before .before .before .before .before .before .line-of2 .ensures) (c .before .before .before .before .before .before .before .field-of3 .ensures) (c .before .before .before .before .before .before .rows-of .ensures)
+    (form-size (now (a .t)) (a .at) (a .doc) (now (a .form)) (q .0) (q .1) (q .2)) (c .before .before .before .before .before .broken .ensures) (c .before .before .before .before .no-findings .ensures) (c .before .before .collected .ensures .0) (c .with-others .ensures)))

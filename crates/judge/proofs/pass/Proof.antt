@@ -1,41 +1,31 @@
+use mathlib.Core.Path.{ap}
+use Prim.Native.Nat.{_<_}
+use lib.ListN.{length}
 use native.Mathlib.Omega.{arith}
-use mathlib.Core.Path.{_≡_}
-use mathlib.Core.Bool.{true}
-use Prim.Native.Nat.{_+_, _≤_}
-use lib.ListN.{length, drop}
 use denote.Ref.{now}
-use Rattle.paper.specs.Judge.{known}
-use Rattle.walk.specs.Parts.{docHere}
+use Rattle.judge.proofs.Seen.{form-wide, pass-no, pass-room, pass-yes}
 use borrow.Author.Needs.{needs}
-use Rattle.judge.specs.Seen.{nextPast}
-use Rattle.judge.proofs.Seen.{known-is, known-fits}
 use Rattle.judge.proofs.pass.Statement.{statement}
 use Rattle.judge.proofs.pass.Tie as tie
 
-is-known : (c : tie.Then1) → known (docHere (drop (c .before .before .before .before .before .args .at) (now (c .before .before .before .before .before .args .t)))) ≡ true
-is-known c =
-    let f = c .before .before .before in
-    let a = f .before .before .args in
-    known-is (now (a .t)) (a .at) _ _ _ _ (f .first-of .ensures) (c .before .before .kind-of .ensures) (c .before .is-form .ensures) (c .if1 .taken)
-
-low : (c : tie.Then1) → c .before .before .before .before .before .args .at + 384 ≤ 18446744073709551615
-low c =
-    let a = c .before .before .before .before .before .args in
-    let h : a .at + 384 ≤ length (now (a .t)) = known-fits (now (a .t)) (a .at) (is-known c) in
-    omega arith
+room : (c : tie.Else1) → c .before .before .before .before .before .before .before .before .args .past .n < length (now (c .before .before .before .before .before .before .before .before .args .row))
+room c = let a = c .before .before .before .before .before .before .before .before .args in pass-room (now (a .form)) (a .letter) (a .past) (now (a .row)) _ _ _ _ _ (c .before .before .before .before .before .before .before .before .pre) (c .before .before .before .before .before .field-of .ensures) (c .before .before .before .before .number-after .ensures) (c .before .before .before .field-of2 .ensures) (c .before .before .number-after2 .ensures) (c .before .is-a .ensures) (c .if1 .left)
 
 pub pass-spec : {M : Type 1} → statement M
-unfolding nextPast
 pass-spec =
     tie.close
     (tie.spec
     (λ c κs. search needs)
+    (λ c κs. let w = form-wide (now (c .before .before .before .args .form)) (c .before .before .before .pre) in omega (arith, w .0, ap length (c .field-of .ensures)))
+    (λ c κs. search needs)
+    (λ c κs. let w = form-wide (now (c .before .before .before .before .before .args .form)) (c .before .before .before .before .before .pre) in omega (arith, w .1, ap length (c .field-of2 .ensures)))
+    (λ c κs. search needs)
+    (λ c. let a = c .before .before .before .before .before .before .before .before .args in pass-no (now (a .form)) (a .letter) (a .past) (now (a .row)) _ _ _ _ _ (c .before .before .before .before .before .before .before .before .pre) (c .before .before .before .before .before .field-of .ensures) (c .before .before .before .before .number-after .ensures) (c .before .before .before .field-of2 .ensures) (c .before .before .number-after2 .ensures) (c .before .is-a .ensures) (c .if1 .taken))
     (λ c κs. search needs)
     (λ c κs. search needs)
-    (λ c κs. low c)
-    (λ c κs. low (c .before))
-    (λ c. rw (is-known (c .before .before)) (rw (c .with-numbers .ensures, c .before .with-letter .ensures, c .before .before .before .before .before .first-of .ensures)))
-    (λ c.
-    let f = c .before .before .before in
-    let a = f .before .before .args in
-    rw (known-is (now (a .t)) (a .at) _ _ _ _ (f .first-of .ensures) (c .before .before .kind-of .ensures) (c .before .is-form .ensures) (c .if1 .left))))
+    (λ c. search needs)
+    (λ c. let h = room (c .before .before) in search needs)
+    (λ c. let h = room (c .before .before) in search needs)
+    (λ c. let h = room (c .before .before) in search needs)
+    (λ c. search needs)
+    (λ c. let a = c .before .before .before .before .before .before .before .before .before .before .args in pass-yes (now (a .form)) (a .letter) (a .past) (now (a .row)) _ _ _ _ _ (c .before .before .before .before .before .before .before .before .before .before .pre) (c .before .before .before .before .before .before .before .field-of .ensures) (c .before .before .before .before .before .before .number-after .ensures) (c .before .before .before .before .before .field-of2 .ensures) (c .before .before .before .before .number-after2 .ensures) (c .before .before .before .is-a .ensures) (c .before .before .if1 .left) _ _ (c .before .field-of3 .ensures) (c .number-of .ensures .0)))

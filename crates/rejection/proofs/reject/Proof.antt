@@ -1,9 +1,10 @@
 use mathlib.Core.Path.{_≡_, ap, _∙_}
+use native.Mathlib.Omega.{arith}
 use lib.ListN.{length, getD}
 use denote.Ref.{now}
-use Rattle.paper.specs.File.{codeList, laid, wholeErrors, rejection}
-use Rattle.rejection.specs.Given.{codesBy}
-use Rattle.rejection.proofs.Laws.{row-codes, codes-count, refuse, give, rejection-size, rejection-laid}
+use Rattle.paper.specs.Bytes.{laid}
+use Rattle.paper.specs.File.{codeList, wholeErrors, rejection}
+use Rattle.rejection.proofs.Laws.{laid-as, row-codes, codes-count, refuse, give, rejection-size, rejection-laid}
 use borrow.Author.Needs.{needs}
 use Rattle.rejection.proofs.reject.Statement.{statement}
 use Rattle.rejection.proofs.reject.Tie as tie
@@ -26,26 +27,35 @@ reject-spec =
     (λ c. search needs)
     (λ c. search needs)
     (λ c.
-    let a = c .before .before .before .before .before .args in
-    let g = refuse (rejection (now (a .sequence)) (a .codes)) (now (a .out)) _ (rejection-size (now (a .sequence)) (a .codes) (c .before .errors-of .result) (counted (c .before))) (c .if1 .taken) in
+    let n = c .before in
+    let b = n .before .before .before .before in
+    let a = b .args in
+    let g = refuse (rejection (now (a .sequence)) (a .codes)) (now (a .out)) _ (rejection-size (now (a .sequence)) (a .codes) (n .errors-of .result) (counted n)) (c .if1 .taken) in
     (g .says, g .leaves))
     (λ c. search needs)
     (λ c. search needs)
     (λ c. search needs)
     (λ c. search needs)
     (λ c κs. search needs)
-    (λ c. search needs)
-    (λ c κs. search needs)
-    (λ c κs. search needs)
+    (λ c κs.
+    let k = c .before .before .before in
+    let i = k .before .before .before .before .before .before in
+    let n = i .before in
+    let b = n .before .before .before .before in
+    let a = b .args in
+    omega (arith, n .errors-of .ensures .0, k .put-key .kept .0))
     (λ c. search needs)
     (λ c.
     let e = c .before .before in
-    let u = e .before .before .before .before in
-    let k = u .before .before .before in
-    let n = k .before .before .before .before .before .before in
-    let r = n .before .codes-of in
-    let a = n .before .before .before .before .args in
-    let g = give (rejection (now (a .sequence)) (a .codes)) (now (a .out)) _ (rejection-size (now (a .sequence)) (a .codes) (n .errors-of .result) (counted n)) (e .put-codes .last .0) (k .before .before .before .before .before .if1 .left)
-    (rejection-laid (now (a .sequence)) (a .codes) (n .errors-of .result) (k .key-record .result) (now (a .out)) (u .put .last .0) (e .put-codes .last .0) (counted n) (k .key-record .ensures) (u .put .ensures)
-    (e .put-codes .ensures ∙ ap (λ cs. laid (u .put .last .0) 120 (wholeErrors 1 cs)) (row-codes (a .codes) (r .result) 0 (r .ensures)))) in
+    let k = e .before .before .before .before in
+    let i = k .before .before .before .before .before .before in
+    let n = i .before in
+    let s = n .before in
+    let b = s .before .before .before in
+    let a = b .args in
+    let r = s .codes-of in
+    let key = laid-as (k .put-key .last .0) (now (a .out)) _ 0 (search needs) (k .put-key .ensures) in
+    let g = give (rejection (now (a .sequence)) (a .codes)) (now (a .out)) _ (rejection-size (now (a .sequence)) (a .codes) (n .errors-of .result) (counted n)) (e .put-codes .last .0) (i .if1 .left)
+    (rejection-laid (now (a .sequence)) (a .codes) (n .errors-of .result) (now (a .out)) (k .put-key .last .0) (e .put-codes .last .0) (counted n) key
+    (e .put-codes .ensures ∙ ap (λ cs. laid (k .put-key .last .0) 120 (wholeErrors 1 cs)) (row-codes (a .codes) (r .result) 0 (r .ensures)))) in
     (g .says, g .leaves)))

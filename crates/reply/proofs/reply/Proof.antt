@@ -29,4 +29,4 @@ reply-spec =
     let e = n .before in
     let k = e .before .before .before .before in
     let a = k .before .before .before .before .before .before .before .args in
-    shows-refusal (now (a .t)) (now (a .pack)) (now (a .date)) (now (a .name)) (length (now (a .out))) (k .acknowledge .result) _ (n .number-of .result) (l .refusal-line .result) (now (a .out)) _ _ (k .acknowledge .ensures .0) (e .enum-told .given .1) (k .acknowledge .ensures .1) (n .number-of .ensures) (l .refusal-line .ensures) (p .put .ensures)))
+    shows-refusal (now (a .t)) (now (a .pack)) (now (a .date)) (now (a .name)) (length (now (a .out))) (k .acknowledge .result) _ (n .number-of .result) (l .refusal-line .result) (now (a .out)) _ _ (k .acknowledge .ensures .0) (e .enum-told .given .1) (k .acknowledge .ensures .1) (n .number-of .ensures) (l .refusal-line .ensures) (p .lay .ensures)))

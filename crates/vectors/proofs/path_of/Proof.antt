@@ -19,4 +19,4 @@ path-of-spec =
     let p = c .before .before .before .before in
     let f = p .before .before .before in
     let a = f .before .before .args in
-    path-laid (a .i) (now (a .part)) (f .folder-of .result) (replicate 16 0) _ _ (f .folder-of .ensures) (p .put .ensures) (c .before .put2 .ensures)))
+    path-laid (a .i) (now (a .part)) (f .folder-of .result) (replicate 16 0) _ _ (f .folder-of .ensures) (p .lay .ensures) (c .before .lay2 .ensures)))

@@ -1,0 +1,34 @@
+use Rattle.paper.specs.Conditions.{pick, auth0010}
+use Rattle.auth.specs.Asked.{fieldHolds}
+use borrow.Author.Needs.{needs}
+use Rattle.auth.proofs.of_payer.Statement.{statement}
+use Rattle.auth.proofs.of_payer.Tie as tie
+
+pub of-payer-spec : {M : Type 1} → statement M
+unfolding fieldHolds pick auth0010
+of-payer-spec =
+    tie.close
+    (tie.spec
+    (λ c κs. search needs)
+    (λ c κs. search needs)
+    (λ c κs. search needs)
+    (λ c κs. search needs)
+    (λ c κs. search needs)
+    (λ c κs. search needs)
+    (λ c κs. search needs)
+    (λ c κs. search needs)
+    (λ c κs. search needs)
+    (λ c κs. search needs)
+    (λ c κs. search needs)
+    (λ c κs. search needs)
+    (λ c κs. search needs)
+    (λ c κs. search needs)
+    (λ c κs. search needs)
+    (λ c κs. search needs)
+    (λ c κs. search needs)
+    (λ c κs. search needs)
+    (λ c κs. search needs)
+    (λ c κs. search needs)
+    (λ c κs. search needs)
+    (λ c κs. search needs)
+    (λ c. rw (c .and-rule11 .ensures, c .before .not-date .ensures, c .before .before .and-rule10 .ensures, c .before .before .before .before .and-rule9 .ensures, c .before .before .before .before .before .before .blank3 .ensures, c .before .before .before .before .before .before .before .field-of3 .ensures, c .before .before .before .before .before .before .before .before .and-rule8 .ensures, c .before .before .before .before .before .before .before .before .before .not-digits .ensures, c .before .before .before .before .before .before .before .before .before .before .and-rule7 .ensures, c .before .before .before .before .before .before .before .before .before .before .before .before .and-rule6 .ensures, c .before .before .before .before .before .before .before .before .before .before .before .before .before .is-same .ensures, c .before .before .before .before .before .before .before .before .before .before .before .before .before .before .piece .ensures, c .before .before .before .before .before .before .before .before .before .before .before .before .before .before .before .before .and-rule5 .ensures, c .before .before .before .before .before .before .before .before .before .before .before .before .before .before .before .before .before .before .blank2 .ensures, c .before .before .before .before .before .before .before .before .before .before .before .before .before .before .before .before .before .before .before .field-of2 .ensures, c .before .before .before .before .before .before .before .before .before .before .before .before .before .before .before .before .before .before .before .before .and-rule4 .ensures, c .before .before .before .before .before .before .before .before .before .before .before .before .before .before .before .before .before .before .before .before .before .not-pin .ensures, c .before .before .before .before .before .before .before .before .before .before .before .before .before .before .before .before .before .before .before .before .before .before .and-rule3 .ensures, c .before .before .before .before .before .before .before .before .before .before .before .before .before .before .before .before .before .before .before .before .before .before .before .before .and-rule2 .ensures, c .before .before .before .before .before .before .before .before .before .before .before .before .before .before .before .before .before .before .before .before .before .before .before .before .before .before .and-rule .ensures, c .before .before .before .before .before .before .before .before .before .before .before .before .before .before .before .before .before .before .before .before .before .before .before .before .before .before .before .before .blank .ensures, c .before .before .before .before .before .before .before .before .before .before .before .before .before .before .before .before .before .before .before .before .before .before .before .before .before .before .before .before .before .field-of .ensures)))

@@ -1,0 +1,11 @@
+use mathlib.Core.Path.{sym}
+use native.Mathlib.Omega.{arith}
+use Rattle.text.proofs.Words.{pair-eqb}
+use Rattle.text.proofs.is_equal.Statement.{statement}
+use Rattle.text.proofs.is_equal.Tie as tie
+
+pub is-equal-spec : {M : Type 1} → statement M
+is-equal-spec = tie.close (tie.spec (λ c.
+    let a = c .before .before .before .before .args .a in
+    let b = c .before .before .before .before .args .b in
+    sym (pair-eqb 18446744073709551616 (a .first) (b .first) (a .last) (b .last) (omega arith) (omega arith))))
