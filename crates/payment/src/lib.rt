@@ -8,7 +8,9 @@ ghost use lib.ListN.{length, getD};
 ghost use Rattle.paper.specs.declared.Layout.the-variants.{L4868, LPayment};
 ghost use Rattle.paper.specs.Layouts.{field};
 ghost use Rattle.paper.specs.Conditions.{runs, wrongPayment, otherSpouse, wrongBank, taxType, paymentRules};
+ghost use Rattle.text.specs.Words.{little};
 ghost use Rattle.words.specs.Sets.{bitsOn, bitsBy};
+ghost use Rattle.words.specs.Tables.{ruleText};
 ghost use Rattle.payment.specs.Breaks.{breaks};
 
 fn field_of(n: u32, own: &[u8]) -> &[u8]
@@ -103,25 +105,25 @@ pub fn broken(form: &[u8], own: &[u8], bank: &[u8], before: usize) -> u64
     of_payer(form, own, before, of_money(own, bank, 0))
 }
 
-// The rule that has this place in the set.
-pub fn rule_at(i: usize) -> u32
-    ensures { λ r. ⌜ r ≡ getD paymentRules i 0 ⌝ }
+// The text of the rule at a place of the table, its field and its code: eight bytes, the first one lowest.
+pub fn text_at(i: usize) -> u64
+    ensures { λ r. ⌜ r ≡ little (ruleText (getD paymentRules i 0)) ⌝ }
 {
     match i {
-        0 => 44,
-        1 => 45,
-        2 => 30004,
-        3 => 100010,
-        4 => 100395,
-        5 => 200010,
-        6 => 200395,
-        7 => 300396,
-        8 => 400396,
-        9 => 500396,
-        10 => 600010,
-        11 => 700010,
-        12 => 800397,
-        13 => 900010,
-        _ => 0,
+        0 => 0x34343030_30303030, // 0000 0044
+        1 => 0x35343030_30303030, // 0000 0045
+        2 => 0x34303030_33303030, // 0003 0004
+        3 => 0x30313030_30313030, // 0010 0010
+        4 => 0x35393330_30313030, // 0010 0395
+        5 => 0x30313030_30323030, // 0020 0010
+        6 => 0x35393330_30323030, // 0020 0395
+        7 => 0x36393330_30333030, // 0030 0396
+        8 => 0x36393330_30343030, // 0040 0396
+        9 => 0x36393330_30353030, // 0050 0396
+        10 => 0x30313030_30363030, // 0060 0010
+        11 => 0x30313030_30373030, // 0070 0010
+        12 => 0x37393330_30383030, // 0080 0397
+        13 => 0x30313030_30393030, // 0090 0010
+        _ => 0x30303030_30303030,
     }
 }

@@ -2,18 +2,23 @@
 use mathlib.Core.Path.{_≡_, refl, sym, ap, _∙_}
 use mathlib.Core.Bool.{Bool, true, false, cond, _&&_}
 use mathlib.Core.List.{[], _∷_, _++_, append-nil, append-assoc}
-use Prim.Native.Nat.{ℕ, suc, _+_, _-_, _<_, _≤_}
+use Prim.{tt}
+use Prim.Native.Nat.{ℕ, suc, _+_, _-_, _/_, _%_, _<_, _≤_}
 use native.Mathlib.Omega.{arith}
-use borrow.Author.Tests.{le-leb, lt-leb, leb-true, ltb-false}
-use lib.Dec.{leb, ltb}
+use borrow.Author.Tests.{le-leb, lt-leb, lt-ltb, leb-true, ltb-false}
+use lib.Dec.{leb, ltb, lit≤}
 use lib.ListN.{length, take, drop, getD, set, length-take, length-drop, take-append-drop}
-use lib.Seq.{sets, sets-eq, set-set, set-comm, length-take-le, take-all, take-add, drop-drop}
+use lib.Seq.{sets, sets-eq, length-sets, set-set, set-comm, length-take-le, take-all, take-add, drop-drop}
 use Rattle.paper.proofs.Laws.{ended, never, both, take-next}
-use Rattle.paper.specs.Bytes.{Bytes, every, part, blanks, laid}
+use Rattle.paper.specs.declared.Layout.the-variants.{LError}
+use Rattle.paper.specs.Bytes.{Bytes, bytes, every, part, written, laid}
+use Rattle.paper.specs.Layouts.{entry, ackError}
+use Rattle.paper.specs.File.{errorRecord, recordOf}
+use Rattle.paper.proofs.RecordSizes.{length-laid}
 use Rattle.text.specs.Words.{isByte, little, bytesOf, wordLaid}
 use Rattle.text.proofs.Laying.{laid-append}
 use Rattle.text.proofs.Words.{bytes-little, stores, word-fits}
-use Rattle.record.specs.Parts.{spans, placed}
+use Rattle.record.specs.Parts.{spans, errorModel, errorBy, placed}
 
 module _ (out r : Bytes) (at : ℕ) where
   -- no room
@@ -30,10 +35,12 @@ module _ (out r : Bytes) (at : ℕ) where
       let d : drop k (drop at out) ≡ drop (at + length r) out = drop-drop k at out ∙ ap (λ (m : ℕ). drop (at + m) out) (e ∙ sym l) in
       (λ i. take at out ++ (n i ++ d i)) ∙ sym (append-assoc (take at out) r (drop (at + length r) out)) ∙ sym (p ∙ sets-eq r out at f)
 
--- 120 bytes, and as many blanks over them
-pub all-blank : (r : Bytes) → length r ≡ 120 → laid r 0 (blanks 120) ≡ blanks 120
+-- bytes, and as many over them
+pub all-over : (r s : Bytes) → length r ≡ length s → laid r 0 s ≡ s
 unfolding laid
-all-blank r l = let f : 0 + length (blanks 120) ≤ length r = omega arith in sets-eq (blanks 120) r 0 f ∙ ap (λ (s : Bytes). blanks 120 ++ s) (ended r 120 (omega arith)) ∙ append-nil (blanks 120)
+all-over r s l =
+    let f : 0 + length s ≤ length r = omega arith in
+    sets-eq s r 0 f ∙ ap (λ (t : Bytes). s ++ t) (ended r (0 + length s) (omega arith)) ∙ append-nil s
 
 -- A TEXT BY ITS FIRST AND ITS LAST BYTES
 
@@ -114,3 +121,47 @@ word-part r s o at from w h g e b v =
     let l : length (part from 8 s) ≡ 8 = length-take-le 8 (drop from s) (omega (arith, length-drop from s)) in
     let q : bytesOf 8 w ≡ part from 8 s = (λ i. bytesOf (sym l i) (e i)) ∙ bytes-little (part from 8 s) b in
     v ∙ word-fits r at w h ∙ ap (sets r at) q
+
+-- AN ERROR RECORD BY ITS MODEL
+
+-- a text laid in before another that stands after it
+before : (x y r : Bytes) (a b : ℕ) → a + length x ≤ b → laid (laid r b y) a x ≡ laid (laid r a x) b y
+unfolding laid
+before [] y r a b h = refl
+before (c ∷ x) y r a b h = ap (λ (q : Bytes). sets q (suc a) x) (set-sets y r a b c (omega arith)) ∙ before x y (set r a c) (suc a) b (omega arith)
+
+below : (x y r q : Bytes) (a b : ℕ) → a + length x ≤ b → laid r a x ≡ q → laid (laid r b y) a x ≡ laid q b y
+below x y r q a b h e = before x y r a b h ∙ ap (λ (s : Bytes). laid s b y) e
+
+digit-byte : (x : ℕ) → isByte (x % 10 + 48) ≡ true
+digit-byte x = lt-ltb (x % 10 + 48) 256 (omega arith)
+
+-- the eight digits of a rule
+rule-bytes : (rule text : ℕ) → text ≡ little (written 4 (rule / 10000) ++ written 4 (rule % 10000)) → bytesOf 8 text ≡ written 4 (rule / 10000) ++ written 4 (rule % 10000)
+rule-bytes rule text e = ap (bytesOf 8) e ∙ bytes-little (written 4 (rule / 10000) ++ written 4 (rule % 10000)) (simp digit-byte)
+
+-- the record is the paper's
+pub error-said : (ssn : Bytes) (n : ℕ) (id type page occurrence : Bytes) (rule text : ℕ) → text ≡ little (written 4 (rule / 10000) ++ written 4 (rule % 10000))
+    → errorBy (errorModel ssn id type page occurrence) n text ≡ errorRecord ssn n id type page occurrence rule
+unfolding errorBy errorModel errorRecord recordOf entry ackError
+error-said ssn n id type page occurrence rule text e =
+    let d = written 2 n in
+    let w = written 4 (rule / 10000) in
+    let v = written 4 (rule % 10000) in
+    let numbered =
+    below d (bytes "#") _ _ 30 119 (lit≤ tt)
+    (below d occurrence _ _ 30 49 (lit≤ tt) (below d page _ _ 30 44 (lit≤ tt) (below d type _ _ 30 38 (lit≤ tt) (below d id _ _ 30 32 (lit≤ tt) refl)))) in
+    (λ i. laid (numbered i) 56 (rule-bytes rule text e i)) ∙ below (w ++ v) (bytes "#") _ _ 56 119 (lit≤ tt) (sym (laid-append w v _ 56))
+
+pub length-by : (model : Bytes) (n text : ℕ) → length (errorBy model n text) ≡ length model
+unfolding errorBy
+length-by model n text = simp length-laid
+
+module _ (r model o p q : Bytes) (n text at : ℕ) where
+  pub error-laid : length r ≡ 120 → length model ≡ 120 → o ≡ laid r 0 model → p ≡ laid o (entry LError 30 .start) (written 2 n) → at ≡ entry LError 80 .start → q ≡ wordLaid p at text
+      → q ≡ errorBy model n text
+  unfolding errorBy laid entry ackError
+  error-laid l m eo ep ea eq =
+      let s : o ≡ model = eo ∙ all-over r model (omega arith) in
+      let k : length p ≡ length model = ap length ep ∙ length-sets o 30 (written 2 n) ∙ ap length s in
+      eq ∙ word-fits p at text (omega arith) ∙ (λ i. sets (ep i) (ea i) (bytesOf 8 text)) ∙ ap (λ (b : Bytes). sets (sets b 30 (written 2 n)) 56 (bytesOf 8 text)) s

@@ -5,10 +5,11 @@ use mathlib.Core.List.{[], _∷_}
 use lib.Dec.{leb, ltb}
 use lib.ListN.{length}
 use Rattle.paper.specs.declared.Layout.{Layout}
-use Rattle.paper.specs.declared.Layout.the-variants.{LAckRecap}
+use Rattle.paper.specs.declared.Layout.the-variants.{LError, LAckRecap}
 use Rattle.paper.specs.Bytes.{Bytes, bytes, written, zeros, blanks, laid}
 use Rattle.paper.specs.Layouts.{entry}
-use Rattle.paper.specs.File.{fields}
+use Rattle.paper.specs.File.{fields, recordOf}
+use Rattle.text.specs.Words.{bytesOf}
 
 -- a text of n bytes is its first and its last w bytes, and fits into so many bytes at a place
 unfoldable pub spans : ℕ → ℕ → ℕ → ℕ → Bool
@@ -33,6 +34,24 @@ counted r accepted all =
     ∷ (110, zeros 6)
     ∷ (120, written 6 all)
     ∷ [])
+
+-- an Error record without its running number and its rule: primary number, ID, type, page, occurrence
+-- tied to the paper by `error-said` of record/Laws
+unfoldable pub errorModel : Bytes → Bytes → Bytes → Bytes → Bytes → Bytes
+errorModel ssn id type page occurrence =
+    recordOf LError
+    ((0, bytes "ACKR  ")
+    ∷ (10, ssn)
+    ∷ (40, id)
+    ∷ (50, type)
+    ∷ (60, page)
+    ∷ (70, occurrence)
+    ∷ [])
+
+-- a model with a running number and eight digits, those of the rule's field and code
+-- tied to the paper by `error-said` of record/Laws
+unfoldable pub errorBy : Bytes → ℕ → ℕ → Bytes
+errorBy model n text = laid (laid model (entry LError 30 .start) (written 2 n)) (entry LError 80 .start) (bytesOf 8 text)
 
 -- a record at a place of an output; where its 120 bytes do not fit whole, nothing is changed
 -- tied to the paper by `not-placed` and `lent-placed` of record/Laws

@@ -8,8 +8,8 @@ ghost use Prim.Native.Nat.{_+_, _-_, _≤_};
 ghost use lib.ListN.{length};
 ghost use Rattle.paper.specs.Bytes.{part, written, laid};
 ghost use Rattle.paper.specs.Layouts.{entry};
-ghost use Rattle.paper.specs.File.{letterByte, verdictByte, keyRecord, errorRecord, recapRecord};
-ghost use Rattle.record.specs.Parts.{spans, started, ended, counted, placed};
+ghost use Rattle.paper.specs.File.{letterByte, verdictByte, keyRecord, recapRecord};
+ghost use Rattle.record.specs.Parts.{spans, started, ended, counted, errorModel, errorBy, placed};
 
 // What a Key says of its documents: the verdict, field 0065 and the number of Error records.
 pub struct Marks {
@@ -102,18 +102,6 @@ fn lay_two(r: &mut [u8], l: Layout, number: u32, n: u32)
     lay_field(r, l, number, &text)
 }
 
-fn lay_four(r: &mut [u8], l: Layout, number: u32, n: u32)
-    ensures { λ _. ⌜ now (r .exit) ≡ laid (now (r .entry)) (entry l number .start) (written 4 n) ⌝ }
-{
-    let text = [
-        (n / 10 / 10 / 10 % 10 + 48) as u8,
-        (n / 10 / 10 % 10 + 48) as u8,
-        (n / 10 % 10 + 48) as u8,
-        (n % 10 + 48) as u8,
-    ];
-    lay_field(r, l, number, &text)
-}
-
 fn lay_six(r: &mut [u8], l: Layout, number: u32, n: u32)
     ensures { λ _. ⌜ now (r .exit) ≡ laid (now (r .entry)) (entry l number .start) (written 6 n) ⌝ }
 {
@@ -191,29 +179,35 @@ fn lay_key(
     end(r)
 }
 
-fn lay_error(
-    r: &mut [u8],
-    ssn: &[u8],
-    n: u32,
-    id: &[u8],
-    form: &[u8],
-    page: &[u8],
-    occurrence: &[u8],
-    rule: u32,
-)
+fn lay_model(r: &mut [u8], ssn: &[u8], id: &[u8], form: &[u8], page: &[u8], occurrence: &[u8])
     requires { ⌜ length (now r) ≡ 120 ⌝ }
-    ensures { λ _. ⌜ now (r .exit) ≡ errorRecord (now (ssn .entry)) n (now (id .entry)) (now (form .entry)) (now (page .entry)) (now (occurrence .entry)) rule ⌝ }
+    ensures { λ _. ⌜ now (r .exit) ≡ errorModel (now (ssn .entry)) (now (id .entry)) (now (form .entry)) (now (page .entry)) (now (occurrence .entry)) ⌝ }
 {
     start(r, Layout::LError, b"ACKR  ");
     wide_field(r, Layout::LError, 10, ssn);
-    lay_two(r, Layout::LError, 30, n);
     short_field(r, Layout::LError, 40, id);
     short_field(r, Layout::LError, 50, form);
     short_field(r, Layout::LError, 60, page);
     short_field(r, Layout::LError, 70, occurrence);
-    lay_four(r, Layout::LError, 80, rule / 10000);
-    lay_four(r, Layout::LError, 90, rule % 10000);
     end(r)
+}
+
+// What the Error records of one record of a document share: all but the running number and the rule.
+pub fn error_model(ssn: &[u8], id: &[u8], form: &[u8], page: &[u8], occurrence: &[u8]) -> [u8; 120]
+    ensures { λ r. ⌜ r ≡ errorModel (now (ssn .entry)) (now (id .entry)) (now (form .entry)) (now (page .entry)) (now (occurrence .entry)) ⌝ }
+{
+    let mut r = [32u8; 120];
+    lay_model(&mut r, ssn, id, form, page, occurrence);
+    r
+}
+
+fn lay_error(r: &mut [u8], model: &[u8], n: u32, text: u64)
+    requires { ⌜ (length (now r) ≡ 120) × (length (now model) ≡ 120) ⌝ }
+    ensures { λ _. ⌜ now (r .exit) ≡ errorBy (now (model .entry)) n text ⌝ }
+{
+    text::lay(r, 0, model);
+    lay_two(r, Layout::LError, 30, n);
+    text::put_word(r, layout::start_of(Layout::LError, 80), text)
 }
 
 fn less(a: u32, b: u32) -> u32
@@ -285,19 +279,9 @@ pub fn put_key(
     )
 }
 
-// ACK Error: n is its running number, rule the field times 10000 plus the code.
-pub fn put_error(
-    out: &mut [u8],
-    at: usize,
-    ssn: &[u8],
-    n: u32,
-    id: &[u8],
-    form: &[u8],
-    page: &[u8],
-    occurrence: &[u8],
-    rule: u32,
-)
-    ensures { λ _. ⌜ now (out .exit) ≡ placed (now (out .entry)) at (errorRecord (now (ssn .entry)) n (now (id .entry)) (now (form .entry)) (now (page .entry)) (now (occurrence .entry)) rule) ⌝ }
+// ACK Error: a model with its running number and the eight digits of its rule, the field and the code.
+pub fn put_error(out: &mut [u8], at: usize, model: &[u8; 120], n: u32, text: u64)
+    ensures { λ _. ⌜ now (out .exit) ≡ placed (now (out .entry)) at (errorBy (now (model .entry)) n text) ⌝ }
 {
     if out.len() < 120 {
         return;
@@ -306,7 +290,7 @@ pub fn put_error(
         return;
     }
     let end = at + 120;
-    lay_error(&mut out[at..end], ssn, n, id, form, page, occurrence, rule)
+    lay_error(&mut out[at..end], model, n, text)
 }
 
 // ACK Recap, with RECAP's own count and TRANA's 12 digits.

@@ -57,8 +57,11 @@ fn pin_byte(known: bool, ath_found: bool, facts: Facts) -> u8
 pub fn shown<'a>(known: bool, main: &'a [u8], number: u32, zeros: &'a [u8]) -> &'a [u8]
     ensures { λ r. ⌜ now r ≡ cond (known && digits (field Layout.L4868 number (now (main .entry)))) (field Layout.L4868 number (now (main .entry))) (now (zeros .entry)) ⌝ }
 {
-    let f = layout::field_of(Layout::L4868, number, main);
-    pick(known & text::digits(f), f, zeros)
+    if known {
+        let f = layout::field_of(Layout::L4868, number, main);
+        return pick(text::digits(f), f, zeros);
+    }
+    zeros
 }
 
 // The text for a document that is accepted, else the other.
@@ -119,7 +122,9 @@ pub fn type_at<'a>(kind: Kind, r: &'a [u8], blanks: &'a [u8]) -> &'a [u8]
 pub fn occurrence_at<'a>(kind: Kind, r: &'a [u8], first: &'a [u8]) -> &'a [u8]
     ensures { λ t. ⌜ now t ≡ cond ((is Kind.Payment kind || is Kind.Auth kind) && digits (field Layout.LPayment 5 (now (r .entry)))) (field Layout.LPayment 5 (now (r .entry))) (now (first .entry)) ⌝ }
 {
-    let f = layout::field_of(Layout::LPayment, 5, r);
-    let counted = walk::is_payment(kind) | walk::is_auth(kind);
-    pick(counted & text::digits(f), f, first)
+    if walk::is_payment(kind) | walk::is_auth(kind) {
+        let f = layout::field_of(Layout::LPayment, 5, r);
+        return pick(text::digits(f), f, first);
+    }
+    first
 }

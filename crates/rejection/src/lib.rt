@@ -6,12 +6,14 @@ use paper::Verdict;
 use record::Marks;
 ghost use mathlib.Core.Path.{_≡_};
 ghost use mathlib.Core.Bool.{cond};
-ghost use Prim.Native.Nat.{_+_, _*_, _≤_};
+ghost use mathlib.Core.List.{_++_};
+ghost use Prim.Native.Nat.{_+_, _*_, _/_, _%_, _≤_};
 ghost use lib.Dec.{eqb};
 ghost use lib.ListN.{length};
-ghost use Rattle.paper.specs.Bytes.{zeros, blanks, laid};
+ghost use Rattle.paper.specs.Bytes.{written, zeros, blanks, laid};
 ghost use Rattle.paper.specs.File.{errorRecord, wholeErrors, rejection};
 ghost use Rattle.paper.specs.Answer.{roomFor, leftBy};
+ghost use Rattle.text.specs.Words.{little};
 ghost use Rattle.rejection.specs.Given.{codesBy, codeRow};
 
 // The codes in their order; 0 for no second one.
@@ -26,22 +28,31 @@ fn codes_of(codes: Codes) -> [u32; 2]
     }
 }
 
+// The eight digits of a code, the field 0000 before it, as one number, the first digit lowest.
+fn text_of(code: u32) -> u64
+    ensures { λ r. ⌜ r ≡ little (written 4 (code / 10000) ++ written 4 (code % 10000)) ⌝ }
+{
+    let field = code as u64 / 10000;
+    let last = code as u64 % 10000;
+    (((((((last % 10 + 48) * 256 + (last / 10 % 10 + 48)) * 256 + (last / 10 / 10 % 10 + 48)) * 256
+        + (last / 10 / 10 / 10 % 10 + 48))
+        * 256
+        + (field % 10 + 48))
+        * 256
+        + (field / 10 % 10 + 48))
+        * 256
+        + (field / 10 / 10 % 10 + 48))
+        * 256
+        + (field / 10 / 10 / 10 % 10 + 48)
+}
+
 // The n-th Error record, for a code.
 fn put_code(out: &mut [u8], n: u32, code: u32)
     requires { ⌜ 120 * n + 120 ≤ length (now out) ⌝ }
     ensures { λ _. ⌜ now (out .exit) ≡ laid (now (out .entry)) (120 * n) (errorRecord (zeros 9) n (blanks 6) (blanks 6) (zeros 5) (zeros 7) code) ⌝ }
 {
-    record::put_error(
-        out,
-        120 * n as usize,
-        b"000000000",
-        n,
-        b"      ",
-        b"      ",
-        b"00000",
-        b"0000000",
-        code,
-    )
+    let model = record::error_model(b"000000000", b"      ", b"      ", b"00000", b"0000000");
+    record::put_error(out, 120 * n as usize, &model, n, text_of(code))
 }
 
 fn errors_of(second: u32) -> u32

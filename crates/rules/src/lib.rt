@@ -5,32 +5,34 @@ use paper::Kind;
 ghost use mathlib.Core.Path.{_≡_};
 ghost use lib.ListN.{getD};
 ghost use Rattle.paper.specs.Conditions.{unknownRules, rulesOf};
+ghost use Rattle.text.specs.Words.{little};
+ghost use Rattle.words.specs.Tables.{ruleText};
 ghost use Rattle.rules.specs.Sets.{othersOf};
 
-// Of an FRM of an unknown form: its one rule.
-fn unknown_at(i: usize) -> u32
-    ensures { λ r. ⌜ r ≡ getD unknownRules i 0 ⌝ }
+// Of an FRM of an unknown form: the text of its one rule.
+fn unknown_at(i: usize) -> u64
+    ensures { λ r. ⌜ r ≡ little (ruleText (getD unknownRules i 0)) ⌝ }
 {
     match i {
-        0 => 44,
-        _ => 0,
+        0 => 0x34343030_30303030, // 0000 0044
+        _ => 0x30303030_30303030,
     }
 }
 
-// The rule at a place of a kind's table.
-pub fn rule_at(kind: Kind, i: usize) -> u32
-    ensures { λ r. ⌜ r ≡ getD (rulesOf kind) i 0 ⌝ }
+// The text of the rule at a place of a kind's table, its field and its code: eight bytes, the first one lowest.
+pub fn text_at(kind: Kind, i: usize) -> u64
+    ensures { λ r. ⌜ r ≡ little (ruleText (getD (rulesOf kind) i 0)) ⌝ }
 {
     match kind {
-        Kind::Form => form::rule_at(i),
-        Kind::Payment => payment::rule_at(i),
-        Kind::Auth => auth::rule_at(i),
-        Kind::Summary => summary::rule_at(i),
+        Kind::Form => form::text_at(i),
+        Kind::Payment => payment::text_at(i),
+        Kind::Auth => auth::text_at(i),
+        Kind::Summary => summary::text_at(i),
         Kind::Unknown => unknown_at(i),
-        Kind::TranA => 0,
-        Kind::TranB => 0,
-        Kind::Recap => 0,
-        Kind::Stray => 0,
+        Kind::TranA => 0x30303030_30303030,
+        Kind::TranB => 0x30303030_30303030,
+        Kind::Recap => 0x30303030_30303030,
+        Kind::Stray => 0x30303030_30303030,
     }
 }
 

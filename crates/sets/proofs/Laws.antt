@@ -1,20 +1,23 @@
 -- The rules of a set one after the other, and Error records laid one after the other. Assumes nothing.
 use mathlib.Core.Path.{_≡_, refl, sym, ap, _∙_}
-use mathlib.Core.Bool.{Bool, true, cond, _&&_}
+use mathlib.Core.Bool.{Bool, true, not, cond, _&&_}
 use mathlib.Core.List.{List, [], _∷_, _++_, map, append-nil, append-assoc}
 use Prim.Native.Nat.{ℕ, zero, suc, _+_, _-_, _*_, _/_, _%_, _^_, _<_, _≤_, min}
 use native.Mathlib.Nat.{pow-suc}
 use native.Mathlib.Omega.{arith}
-use borrow.Author.Tests.{le-leb, lt-leb, ltb-true}
+use borrow.Author.Tests.{le-leb, lt-leb, eq-eqb}
 use lib.Bits.{bitAnd, and-block, and-self, and-le-r}
 use lib.Count.{trailingZeros, under}
-use lib.Dec.{eqb, leb, ltb, lit<}
+use lib.Dec.{eqb, leb, lit<}
 use lib.ListN.{length, getD, drop, take, length-append, length-take}
 use lib.Seq.{drop-drop}
 use Prim.{tt}
 use Rattle.text.proofs.Laying.{laid-append}
+use Rattle.text.specs.Words.{little}
+use Rattle.words.specs.Tables.{ruleText}
 use Rattle.rules.specs.Sets.{chosen}
-use Rattle.record.specs.Parts.{placed}
+use Rattle.record.specs.Parts.{errorModel, errorBy, placed}
+use Rattle.record.proofs.Laws.{error-said}
 use Rattle.recordset.specs.Key.{keyOf}
 use Rattle.recordset.proofs.Laws.{length-errorsFrom, length-keyOf, set-parts}
 use Rattle.sets.specs.Set.{kindAt, foundIn, foundFrom, firsts, setAs}
@@ -28,7 +31,7 @@ use Rattle.paper.specs.Judge.{Finding, mark, typeAt, occurrenceAt}
 use Rattle.paper.specs.Layouts.{field}
 use Rattle.paper.specs.Walk.{kindNumber}
 use Rattle.paper.specs.File.{errorRecord, errorOf, errorsFrom, orZeros, setBy}
-use Rattle.paper.proofs.Laws.{both}
+use Rattle.paper.proofs.Laws.{both, never}
 use Rattle.paper.proofs.RecordSizes.{length-laid}
 
 -- THE RULES OF A SET
@@ -92,25 +95,29 @@ pub empty-set : (s : List ℕ) → chosen 0 s ≡ []
 empty-set [] = refl
 empty-set (x ∷ s) = empty-set s
 
--- no rule is 0
-pub no-zero : (k : Kind) → every (ltb 0) (rulesOf k) ≡ true
-unfolding formRules paymentRules authRules summaryRules
-no-zero TranA = refl
-no-zero TranB = refl
-no-zero Form = refl
-no-zero Unknown = refl
-no-zero Payment = refl
-no-zero Auth = refl
-no-zero Summary = refl
-no-zero Recap = refl
-no-zero Stray = refl
+-- no rule is written in zeros
+abbrev isWritten : ℕ → Bool
+isWritten rule = not (eqb (little (ruleText rule)) 3472328296227680304)
 
-pub past-table : (s : List ℕ) (i : ℕ) → every (ltb 0) s ≡ true → getD s i 0 ≡ 0 → length s ≤ i
+pub no-zeros : (k : Kind) → every isWritten (rulesOf k) ≡ true
+unfolding ruleText formRules paymentRules authRules summaryRules
+no-zeros TranA = refl
+no-zeros TranB = refl
+no-zeros Form = refl
+no-zeros Unknown = refl
+no-zeros Payment = refl
+no-zeros Auth = refl
+no-zeros Summary = refl
+no-zeros Recap = refl
+no-zeros Stray = refl
+
+pub past-table : (s : List ℕ) (i : ℕ) → every isWritten s ≡ true → little (ruleText (getD s i 0)) ≡ 3472328296227680304 → length s ≤ i
 past-table [] i a e = omega arith
-past-table (x ∷ s) zero a e = let h : 0 < x = ltb-true 0 x (both (ltb 0 x) (every (ltb 0) s) a .0) in absurd (omega arith)
-past-table (x ∷ s) (suc i) a e = let h : length s ≤ i = past-table s i (both (ltb 0 x) (every (ltb 0) s) a .1) e in omega arith
+past-table (x ∷ s) zero a e = absurd (never (sym (ap not (eq-eqb _ _ e)) ∙ both (isWritten x) (every isWritten s) a .0))
+past-table (x ∷ s) (suc i) a e = let h : length s ≤ i = past-table s i (both (isWritten x) (every isWritten s) a .1) e in omega arith
 
-pub in-table : (s : List ℕ) (i : ℕ) → (getD s i 0 ≡ 0 → ⊥) → i < length s
+pub in-table : (s : List ℕ) (i : ℕ) → (little (ruleText (getD s i 0)) ≡ 3472328296227680304 → ⊥) → i < length s
+unfolding ruleText
 in-table [] i h = absurd (h refl)
 in-table (x ∷ s) zero h = omega arith
 in-table (x ∷ s) (suc i) h = let g : i < length s = in-table s i h in omega arith
@@ -185,31 +192,34 @@ module _ (ssn r : Bytes) (k : Kind) (end : ℕ) where
     pub row-full : end ≤ n → (n ≡ first + length (rowFrom first set)) × (out ≡ laid out₀ (120 * first) (errorsFrom ssn first (rowFrom first set)))
     row-full h = stops (none-before end n _ h)
 
-    pub row-past : (rule : ℕ) → rule ≡ getD (rulesOf k) (trailingZeros 64 left) 0 → rule ≡ 0
+    pub row-past : (text : ℕ) → text ≡ little (ruleText (getD (rulesOf k) (trailingZeros 64 left) 0)) → text ≡ 3472328296227680304
         → (n ≡ first + length (rowFrom first set)) × (out ≡ laid out₀ (120 * first) (errorsFrom ssn first (rowFrom first set)))
-    row-past rule e z =
-        stops (take-none (end - n) _ (ap (map (mark k r)) (no-rule 64 left (rulesOf k) (g .fits) (past-table (rulesOf k) (trailingZeros 64 left) (no-zero k) (sym e ∙ z)))))
+    row-past text e z =
+        stops (take-none (end - n) _ (ap (map (mark k r)) (no-rule 64 left (rulesOf k) (g .fits) (past-table (rulesOf k) (trailingZeros 64 left) (no-zeros k) (sym e ∙ z)))))
 
     pub row-done : left ≡ 0 → (n ≡ first + length (rowFrom first set)) × (out ≡ laid out₀ (120 * first) (errorsFrom ssn first (rowFrom first set)))
     row-done z = stops (take-none (end - n) _ (ap (map (mark k r)) (ap (λ (s : ℕ). chosen s (rulesOf k)) z ∙ empty-set (rulesOf k))))
 
-    pub row-next : (rule : ℕ) (out' : Bytes) → rule ≡ getD (rulesOf k) (trailingZeros 64 left) 0 → (rule ≡ 0 → ⊥) → (left ≡ 0 → ⊥) → n < end → 120 * end ≤ length out₀
-        → out' ≡ placed out (120 * n) (errorRecord ssn n (field L4868 0 r) (typeAt k r) (bytes "00001") (occurrenceAt k r) rule)
+    pub row-next : (text : ℕ) (model out' : Bytes) → text ≡ little (ruleText (getD (rulesOf k) (trailingZeros 64 left) 0)) → (text ≡ 3472328296227680304 → ⊥) → (left ≡ 0 → ⊥)
+        → n < end → 120 * end ≤ length out₀ → model ≡ errorModel ssn (field L4868 0 r) (typeAt k r) (bytes "00001") (occurrenceAt k r) → out' ≡ placed out (120 * n) (errorBy model n text)
         → Going out₀ out' first set (n + 1) (bitAnd left (left - 1))
-    unfolding placed errorOf
-    row-next rule out' e nz nl h room o =
+    unfolding placed errorOf ruleText
+    row-next text model out' e nz nl h room m o =
+        let rule = getD (rulesOf k) (trailingZeros 64 left) 0 in
+        let said : errorBy model n text ≡ errorOf' rule =
+        ap (λ (b : Bytes). errorBy b n text) m ∙ error-said ssn n (field L4868 0 r) (typeAt k r) (bytes "00001") (occurrenceAt k r) rule text e in
         let p : 0 < left = omega arith in
         let i : trailingZeros 64 left < length (rulesOf k) = in-table (rulesOf k) (trailingZeros 64 left) (λ z. nz (e ∙ z)) in
         let x : Finding = mark k r rule in
         let ys = map (mark k r) (chosen (bitAnd left (left - 1)) (rulesOf k)) in
         let on : map (mark k r) (chosen left (rulesOf k)) ≡ x ∷ ys =
-        ap (map (mark k r)) (next-rule 64 left (rulesOf k) p (g .fits) i ∙ ap (λ (a : ℕ). a ∷ chosen (bitAnd left (left - 1)) (rulesOf k)) (sym e)) in
+        ap (map (mark k r)) (next-rule 64 left (rulesOf k) p (g .fits) i) in
         let s : end - n ≡ suc (end - (n + 1)) = omega arith in
         let one : take (end - n) (x ∷ []) ≡ x ∷ [] = ap (λ (m : ℕ). take m (x ∷ [])) s ∙ take-nil' (end - (n + 1)) x in
         let c : n + 1 ≡ n + length (take (end - n) (x ∷ [])) = sym (ap (λ (l : List Finding). n + length l) one) in
         let f : 120 * n + 120 ≤ length out = omega (arith, g .same) in
         let o' : out' ≡ laid out (120 * n) (errorsFrom ssn n (take (end - n) (x ∷ []))) =
-        o ∙ ap (λ (b : Bool). cond b (laid out (120 * n) (errorOf' rule)) out) (le-leb _ _ f) ∙ ap (laid out (120 * n)) (sym (append-nil (errorOf' rule)))
+        o ∙ (λ j. cond (le-leb _ _ f j) (laid out (120 * n) (said j)) out) ∙ ap (laid out (120 * n)) (sym (append-nil (errorOf' rule)))
         ∙ ap (λ (l : List Finding). laid out (120 * n) (errorsFrom ssn n l)) (sym one) in
         record {
           within = omega arith;

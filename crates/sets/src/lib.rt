@@ -15,6 +15,9 @@ ghost use Rattle.paper.specs.File.{errorsFrom};
 ghost use Rattle.rules.specs.Sets.{chosen};
 ghost use Rattle.sets.specs.Set.{kindAt, foundFrom, firsts, setAs};
 
+// "00000000", which is no rule's text: past the end of a table.
+const NO_RULE: u64 = 0x3030303030303030;
+
 fn at_most_96(n: usize) -> usize
     ensures { λ r. ⌜ (r ≡ min 96 n) × (r ≤ 96) ⌝ }
 {
@@ -56,27 +59,18 @@ fn put_row(
     let id = layout::field_of(Layout::L4868, 0, r);
     let form = recordset::type_at(kind, r, b"      ");
     let occurrence = recordset::occurrence_at(kind, r, b"0000001");
+    let model = record::error_model(ssn, id, form, b"00001", occurrence);
     let mut n = first;
     let mut left = set;
     while left != 0 {
         if end <= n {
             return n;
         }
-        let rule = rules::rule_at(kind, usize::trailing_zeros(left) as usize);
-        if rule == 0 {
+        let text = rules::text_at(kind, usize::trailing_zeros(left) as usize);
+        if text == NO_RULE {
             return n;
         }
-        record::put_error(
-            out,
-            120 * n,
-            ssn,
-            n as u32,
-            id,
-            form,
-            b"00001",
-            occurrence,
-            rule,
-        );
+        record::put_error(out, 120 * n, &model, n as u32, text);
         n += 1;
         left = left & (left - 1);
     }

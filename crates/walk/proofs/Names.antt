@@ -10,7 +10,7 @@ use borrow.Author.Tests.{eqb-true, eqb-false, ne-eqb}
 use lib.Arith.{digits-mod}
 use lib.Dec.{eqb, lit≤}
 use lib.ListN.{length, getD, take, drop, length-take}
-use lib.Seq.{take-take}
+use lib.Seq.{take-all, take-take}
 use Rattle.paper.specs.declared.Kind.{Kind}
 use Rattle.paper.specs.declared.Kind.the-variants.{TranA, TranB, Form, Unknown, Payment, Auth, Summary, Recap, Stray}
 use Rattle.paper.specs.Bytes.{Bytes, bytes, every, same, part, number}
@@ -36,6 +36,12 @@ module _ (k : ℕ) (r : Bytes) (at w : ℕ) (few : k ≤ 8) (e : w ≡ little (p
       let less : little s < 256 ^ k = little-lt k s first-bytes (omega (arith, length-take k (drop at r))) in
       ap (λ (x : ℕ). x % 256 ^ k) (e ∙ little-split k (part at 8 r) ∙ ap (λ (l : Bytes). little l + q * 256 ^ k) first ∙ add-comm (little s) (q * 256 ^ k))
       ∙ digits-mod q less
+
+-- the word of six bytes
+pub short-told : (r p : Bytes) (at w : ℕ) → p ≡ part at 6 r → w ≡ little (part 0 8 p) → every isByte (part 0 8 p) ≡ true → (w ≡ little (part at 6 r)) × (every isByte (part at 6 r) ≡ true)
+short-told r p at w e f h =
+    let all : take 8 p ≡ part at 6 r = take-all 8 p (omega (arith, ap length e, length-take 6 (drop at r))) ∙ e in
+    (f ∙ ap little all, ap (every isByte) (sym all) ∙ h)
 
 -- bytes, fewer than the name's where the record ends before, are the name exactly if the numbers are the same: its last byte is not 0
 pub is-name : (k : ℕ) (s b : Bytes) (n : ℕ) → n ≡ little s → every isByte s ≡ true → length s ≤ suc k

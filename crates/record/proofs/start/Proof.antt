@@ -1,7 +1,8 @@
 -- `record::start` meets its contract: the byte count and the id, laid over blanks. Assumes nothing.
 use denote.Ref.{now}
+use Rattle.paper.specs.Bytes.{blanks}
 use Rattle.record.specs.Parts.{started}
-use Rattle.record.proofs.Laws.{all-blank}
+use Rattle.record.proofs.Laws.{all-over}
 use borrow.Author.Needs.{needs}
 use Rattle.record.proofs.start.Statement.{statement}
 use Rattle.record.proofs.start.Tie as tie
@@ -21,4 +22,4 @@ start-spec =
     let k1 = c .before .before in
     let k2 = k1 .before .before .before .before in
     let k3 = k2 .before .before .before .before .before in
-    rw (k1 .lay-field .ensures, k2 .lay2 .ensures, k3 .lay .ensures, all-blank (now (k3 .before .before .before .before .before .args .r)) (search needs))))
+    rw (k1 .lay-field .ensures, k2 .lay2 .ensures, k3 .lay .ensures, all-over (now (k3 .before .before .before .before .before .args .r)) (blanks 120) (search needs))))

@@ -1,11 +1,12 @@
-use Rattle.summary.proofs.Table.{past-all}
-use Rattle.paper.specs.Conditions.{summaryRules}
-use Rattle.summary.proofs.rule_at.Statement.{statement}
-use Rattle.summary.proofs.rule_at.Tie as tie
+use Rattle.paper.specs.Conditions.{formRules}
+use Rattle.words.specs.Tables.{ruleText}
+use Rattle.words.proofs.Tables.{past-all}
+use Rattle.form.proofs.text_at.Statement.{statement}
+use Rattle.form.proofs.text_at.Tie as tie
 
-pub rule-at-spec : {M : Type 1} → statement M
-unfolding summaryRules
-rule-at-spec =
+pub text-at-spec : {M : Type 1} → statement M
+unfolding formRules ruleText
+text-at-spec =
     tie.close
     (tie.spec
     (λ c. rw (c .match .keys1))
@@ -46,10 +47,4 @@ rule-at-spec =
     (λ c. rw (c .match .keys36))
     (λ c. rw (c .match .keys37))
     (λ c. rw (c .match .keys38))
-    (λ c. rw (c .match .keys39))
-    (λ c. rw (c .match .keys40))
-    (λ c. rw (c .match .keys41))
-    (λ c. rw (c .match .keys42))
-    (λ c. rw (c .match .keys43))
-    (λ c. rw (c .match .keys44))
-    (λ c. past-all summaryRules _ (c .match .rest)))
+    (λ c. rw (past-all formRules _ (c .match .rest))))

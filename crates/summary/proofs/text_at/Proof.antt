@@ -1,11 +1,12 @@
-use Rattle.auth.proofs.Table.{past-all}
-use Rattle.paper.specs.Conditions.{authRules}
-use Rattle.auth.proofs.rule_at.Statement.{statement}
-use Rattle.auth.proofs.rule_at.Tie as tie
+use Rattle.paper.specs.Conditions.{summaryRules}
+use Rattle.words.specs.Tables.{ruleText}
+use Rattle.words.proofs.Tables.{past-all}
+use Rattle.summary.proofs.text_at.Statement.{statement}
+use Rattle.summary.proofs.text_at.Tie as tie
 
-pub rule-at-spec : {M : Type 1} → statement M
-unfolding authRules
-rule-at-spec =
+pub text-at-spec : {M : Type 1} → statement M
+unfolding summaryRules ruleText
+text-at-spec =
     tie.close
     (tie.spec
     (λ c. rw (c .match .keys1))
@@ -51,4 +52,5 @@ rule-at-spec =
     (λ c. rw (c .match .keys41))
     (λ c. rw (c .match .keys42))
     (λ c. rw (c .match .keys43))
-    (λ c. past-all authRules _ (c .match .rest)))
+    (λ c. rw (c .match .keys44))
+    (λ c. rw (past-all summaryRules _ (c .match .rest))))
