@@ -27,7 +27,6 @@ askedOf form own whole = record {
 }
 
 -- the rules from 0010 on, by what is asked; the line is the taxpayer's or the spouse's
--- tied to the paper by `broken` of the crate
 unfoldable pub fieldHolds : Asked → Bytes → Bytes → ℕ → ℕ → Bool
 fieldHolds a own line n code =
     pick (eqb code 10) (auth0010 n own)

@@ -89,6 +89,6 @@ judgmentOf at t = record {
 }
 
 -- and what it leaves
--- tied to the paper by `leaves` of judge/Seen
+-- tied to the paper by `total-found`, `auth-found` and `empty-found` of judge/Found
 abbrev pub judgedOf : ℕ → Turn → Past → List ℕ → Judged
 judgedOf at t p row = record { judgment = judgmentOf at t; past = pastAfter t p row }

@@ -11,7 +11,7 @@ ghost use Rattle.paper.specs.Layouts.{entry};
 ghost use Rattle.paper.specs.File.{letterByte, verdictByte, keyRecord, recapRecord};
 ghost use Rattle.record.specs.Parts.{spans, started, ended, counted, errorModel, errorBy, placed};
 
-// What a Key says of its documents: the verdict, field 0065 and the number of Error records.
+// What a Key says of its document: the verdict, field 0065 and the number of Error records.
 pub struct Marks {
     pub verdict: Verdict,
     pub pin: u8,

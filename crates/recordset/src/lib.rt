@@ -1,4 +1,4 @@
-// A document's record set: its ACK Key, and its ACK Error records.
+// A document's ACK Key, and what its ACK Error records show of a record.
 use paper::Facts;
 use paper::Kind;
 use paper::Layout;

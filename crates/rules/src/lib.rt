@@ -1,5 +1,5 @@
-// The rules of each kind of record, each a field times 10000 plus a code, and which of them a record breaks: a set, with a bit for a rule in
-// the order of its kind's table, the first rule the lowest bit.
+// What a record after a document's first breaks: a set, with a bit for a rule in the order of its kind's table, the first rule the lowest
+// bit; and the text of a rule by its place in the table.
 use paper::Facts;
 use paper::Kind;
 ghost use mathlib.Core.Path.{_≡_};

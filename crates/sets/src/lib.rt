@@ -101,8 +101,8 @@ fn put_errors(
     }
 }
 
-// The record set of a document by its opening record, its judgment and the list of its findings, whose places are in the transmission t.
-// Where it does not fit, nothing is written.
+// The record set of a document by its bytes, which start with its opening record, its judgment, and the list of its records with a finding,
+// whose places are in the transmission t. Where it does not fit, nothing is written.
 pub fn put_set(
     out: &mut [u8],
     main: &[u8],

@@ -1,4 +1,5 @@
-// The words of document 01's conditions, over a field: each says whether the field is at fault.
+// The words of document 01's conditions, over a field: each says whether the field is at fault. The number that digits write, and a rule
+// in a set.
 ghost use mathlib.Core.Path.{_≡_};
 ghost use Prim.Native.Nat.{_-_, _≤_};
 ghost use lib.ListN.{length, take};
