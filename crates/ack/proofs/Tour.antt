@@ -28,7 +28,8 @@ use Rattle.judge.proofs.Seen.{starts-empty}
 use Rattle.sets.specs.Set.{setAs}
 use Rattle.paper.proofs.RecordSizes.{length-laid}
 use Rattle.text.proofs.Laying.{laid-append, lent-laid}
-use Rattle.ack.specs.Ties.{Begins, turnsIn, setsIn, here, ahead, Going, Written}
+use Rattle.ack.specs.declared.Stand.{Stand}
+use Rattle.ack.specs.Ties.{Begins, turnsIn, setsIn, here, ahead, Going, Written, standAt}
 use Rattle.ack.proofs.Onward.{said, kept-few, moved, set-here, set-size, going-on, turn-here}
 
 -- A SOUND TRANSMISSION
@@ -144,6 +145,11 @@ module _ (L : Lines) (date t : Bytes) where
     pub place : to + length (setsIn (ahead L date t at p row)) ≡ 240 + length (setsIn (turnsIn L date t))
     pub holds : laid out to (setsIn (ahead L date t at p row)) ≡ laid out₀ 240 (setsIn (turnsIn L date t))
     pub counts : acc + acceptedIn (ahead L date t at p row) ≡ acceptedIn (turnsIn L date t)
+
+  -- the same, said of where the next document starts
+  pub write-from : (n : ℕ) (out₀ : Bytes) (row : List ℕ) (p : Past) (at to acc i : ℕ) (out : Bytes) (s : Stand) → s ≡ standAt at p → Writing n out₀ row p at to acc i out
+      → Writing n out₀ row (s .past) (s .at) to acc i out
+  write-from n out₀ row p at to acc i out s e w = subst (λ (x : Stand). Writing n out₀ row (x .past) (x .at) to acc i out) (sym e) w
 
   pub write-start : (n : ℕ) (out : Bytes) (row : List ℕ) (p : Past) → Begins t n → length row ≡ 762 → p ≡ noPast → Writing n out row p 240 240 0 0 out
   write-start n out row p b w e =

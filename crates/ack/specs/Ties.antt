@@ -18,6 +18,7 @@ use Rattle.walk.specs.Parts.{docHere, Stands}
 use Rattle.judge.specs.declared.Past.{Past}
 use Rattle.judge.specs.Seen.{seenBy}
 use Rattle.ack.specs.declared.Done.{Done}
+use Rattle.ack.specs.declared.Stand.{Stand}
 use Rattle.ack.specs.declared.Route.{Route}
 use Rattle.ack.specs.declared.Route.the-variants.{Reject, Judge}
 
@@ -57,6 +58,10 @@ routeBy false false = Judge
 -- of a transmission that ends with RECAP, its 12 digits, and the lines of block 5
 unfoldable pub routeOf : Bytes → Bytes → Bytes → Route
 routeOf t digits sent = routeBy (not (eqb (length (lineIn 12 digits sent)) 0)) (not (same (twelveAgain (drop (length t - 120) t)) digits))
+
+-- where the next document starts, and what it sees of the earlier ones
+abbrev pub standAt : ℕ → Past → Stand
+standAt at p = record { at = at; past = p }
 
 -- the first document from a place on, in its turn
 abbrev pub here : Lines → Bytes → Bytes → ℕ → Past → List ℕ → Turn

@@ -1,4 +1,5 @@
 // The acknowledgment file of a transmission, and the entry points.
+use judge::Past;
 use pack::Places;
 use pack::Shape;
 use paper::Answer;
@@ -18,7 +19,13 @@ ghost use Rattle.paper.specs.Answer.{fileName, prescribed, answer, refusalNumbe
 ghost use Rattle.pack.specs.Shape.{shapeOf};
 ghost use Rattle.judge.specs.Judged.{searched};
 ghost use Rattle.rejection.specs.Given.{Given};
-ghost use Rattle.ack.specs.Ties.{blocksBy, Begins, turnsIn, setsIn, judgedFile, fileBy, routeBy, routeOf, Written};
+ghost use Rattle.ack.specs.Ties.{standAt, blocksBy, Begins, turnsIn, setsIn, judgedFile, fileBy, routeBy, routeOf, Written};
+
+// Where the next document starts, and what it sees of the earlier ones.
+struct Stand {
+    at: usize,
+    past: Past,
+}
 
 // Where the record sets end, and how many documents are accepted.
 struct Done {
@@ -52,6 +59,12 @@ fn one_if(letter: Letter) -> usize
         Letter::R => 0,
         Letter::D => 0,
     }
+}
+
+fn stand_at(at: usize, past: Past) -> Stand
+    ensures { λ s. ⌜ s ≡ standAt at past ⌝ }
+{
+    Stand { at, past }
 }
 
 // The length of the record sets of all documents.
@@ -171,8 +184,10 @@ fn write_sets(
         sets::put_set(&mut out[to..], &t[at..end], t, date, j, &list);
         to += 120 + 120 * j.found.kept;
         accepted += one_if(letter);
-        past = judged.past;
-        at = end;
+        let left = judged.past;
+        let next = stand_at(end, left);
+        past = next.past;
+        at = next.at;
         i += 1;
     }
     Done { to, accepted }

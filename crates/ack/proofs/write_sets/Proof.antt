@@ -5,7 +5,7 @@ use denote.Ref.{now}
 use Rattle.paper.specs.Pack.{Lines}
 use Rattle.judge.specs.Judged.{searched}
 use Rattle.ack.proofs.Back.{listed-long}
-use Rattle.ack.proofs.Tour.{Writing, write-start, write-fits, write-on, write-end, tour-fits}
+use Rattle.ack.proofs.Tour.{Writing, write-start, write-fits, write-from, write-on, write-end, tour-fits}
 use borrow.Author.Needs.{needs}
 use Rattle.ack.proofs.write_sets.Statement.{statement}
 use Rattle.ack.proofs.write_sets.Tie as tie
@@ -58,21 +58,23 @@ write-sets-spec =
     let m = w .tour .most in
     let o = c .one-if .ensures .1 in
     search needs)
-    (λ c. let i = c .before .before .before .before .before .before .before .before .before .before .before .before .before .before .before in
+    (λ c κs. search needs)
+    (λ c. let i = c .before .before .before .before .before .before .before .before .before .before .before .before .before .before .before .before .before in
     let m = i .before .loop .inv .0 .tour .most in
     let t = i .loop-test .taken in
     search needs)
-    (λ c. let i = c .before .before .before .before .before .before .before .before .before .before .before .before .before .before .before in
+    (λ c. let i = c .before .before .before .before .before .before .before .before .before .before .before .before .before .before .before .before .before in
     let m = i .before .loop .inv .0 .tour .most in
     let t = i .loop-test .taken in
     search needs)
     (λ c.
-    let p = c .before .before .before .before .before in
+    let p = c .before .before .before .before .before .before .before in
     let g = p .before .before .before .before .before .before .before in
     let l = g .before .before .before .before in
     let s = l .before .before .before .before .before .before .before .before .before in (
-      write-on (lines s) (now (s .args .date)) (now (s .args .t)) (s .args .n) (now (s .args .out)) (l .loop .row) (l .loop .past) (l .loop .at) (l .loop .to) (l .loop .accepted) (l .loop .i) (l .loop .out) (l .loop .inv .0) (g .before .before .before .loop-test .taken) (g .judge .result) (g .judge .ensures .0) (s .pre .1)
-          _ (l .loop .list) _ (c .before .one-if .result) (p .put-set .last .0) (g .judge .ensures .1 .0) (l .loop .inv .1) (g .judge .ensures .1 .1) (c .before .one-if .ensures .0) (c .before .one-if .ensures .1) (p .put-set .ensures),
+      write-from (lines s) (now (s .args .date)) (now (s .args .t)) _ _ _ _ _ _ _ _ _ (c .before .stand-at .result) (c .before .stand-at .ensures)
+          (write-on (lines s) (now (s .args .date)) (now (s .args .t)) (s .args .n) (now (s .args .out)) (l .loop .row) (l .loop .past) (l .loop .at) (l .loop .to) (l .loop .accepted) (l .loop .i) (l .loop .out) (l .loop .inv .0) (g .before .before .before .loop-test .taken) (g .judge .result) (g .judge .ensures .0) (s .pre .1)
+          _ (l .loop .list) _ (c .before .before .before .one-if .result) (p .put-set .last .0) (g .judge .ensures .1 .0) (l .loop .inv .1) (g .judge .ensures .1 .1) (c .before .before .before .one-if .ensures .0) (c .before .before .before .one-if .ensures .1) (p .put-set .ensures)),
       ap length (g .judge .ensures .1 .1) ∙ listed-long _ _ ∙ l .loop .inv .1,
     ))
     (λ c. c .before .loop .inv .0 .same)
