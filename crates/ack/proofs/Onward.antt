@@ -2,10 +2,9 @@
 use mathlib.Core.Path.{_≡_, refl, sym, ap, _∙_, subst}
 use mathlib.Core.Bool.{Bool, true, false, cond}
 use mathlib.Core.List.{List, [], _∷_, map}
-use Prim.Native.Nat.{ℕ, zero, suc, _+_, _-_, _*_, _≤_, _<_, min}
+use Prim.Native.Nat.{ℕ, _+_, _-_, _*_, _≤_, _<_, min}
 use native.Mathlib.Omega.{arith}
 use lib.ListN.{length, take, drop, length-take}
-use lib.Seq.{take-take}
 use Rattle.paper.specs.declared.Facts.{Facts}
 use Rattle.paper.specs.declared.Findings.{Findings}
 use Rattle.paper.specs.declared.Judgment.{Judgment}
@@ -13,13 +12,13 @@ use Rattle.paper.specs.declared.Kind.{Kind}
 use Rattle.paper.specs.declared.Kind.the-variants.{TranA, TranB, Form, Unknown, Payment, Auth, Summary, Recap, Stray}
 use Rattle.paper.specs.declared.Layout.the-variants.{L4868, LPayment}
 use Rattle.paper.specs.declared.Letter.{Letter}
-use Rattle.paper.specs.Bytes.{Bytes, any, joined, part, digits, firstOr}
+use Rattle.paper.specs.Bytes.{Bytes, any, joined, digits, firstOr}
 use Rattle.paper.specs.Layouts.{entry, field}
 use Rattle.paper.specs.Pack.{Lines, banks}
 use Rattle.paper.specs.Walk.{records, Doc, docsOf, kindOf, is, opens}
 use Rattle.paper.specs.Judge.{Before, Finding, Item, Turn, turns, asked, after, afterKnown, seen, attached, ifKnown, itemOf, known, sightOf, findsFrom, findings, letterOf, isA}
 use Rattle.paper.specs.File.{onAuth, setBy, orZeros, setOf}
-use Rattle.paper.proofs.Laws.{never}
+use Rattle.paper.proofs.Laws.{never, part-take}
 use Rattle.paper.proofs.KindLaws.{kind-length}
 use Rattle.layout.proofs.Laws.{entry-low}
 use Rattle.recordset.proofs.Laws.{length-setBy}
@@ -41,12 +40,6 @@ use Rattle.ack.proofs.Back.{Full, doc-stands, all-full, rows-back}
 use Rattle.ack.specs.Ties.{here, ahead, Going}
 
 -- THE OPENING RECORD'S FIELDS, read in the bytes that it starts
-
-part-take : (n a w : ℕ) (l : Bytes) → a + w ≤ n → part a w (take n l) ≡ part a w l
-part-take n zero w l h = take-take w n l (omega arith)
-part-take zero (suc a) w l h = absurd (omega arith)
-part-take (suc n) (suc a) w [] h = refl
-part-take (suc n) (suc a) w (x ∷ l) h = part-take n a w l (omega arith)
 
 field-take : (n k : ℕ) (s : Bytes) → 384 ≤ n → field L4868 k (take n s) ≡ field L4868 k s
 unfolding field

@@ -3,16 +3,17 @@
 use mathlib.Core.Path.{_≡_, refl, sym, ap, _∙_}
 use mathlib.Core.Bool.{Bool, true, false, not, cond, _&&_, _||_}
 use mathlib.Core.List.{List, [], _∷_, _++_}
-use Prim.Native.Nat.{ℕ, zero, suc, _+_, _-_, _≤_, _<_}
+use Prim.Native.Nat.{ℕ, suc, _+_, _-_, _≤_, _<_}
 use native.Mathlib.Omega.{arith}
 use native.Mathlib.Nat.{le-of-eq}
-use lib.Dec.{eqb, leb}
+use lib.Dec.{leb}
 use lib.ListN.{length, getD, take, drop, length-drop}
 use lib.Seq.{take-all, take-suc}
 use borrow.Author.Tests.{eq-eqb, ne-eqb}
-use Rattle.paper.specs.Bytes.{bit, count, any, isSpace, isZero, blank}
-use Rattle.paper.specs.Fields.{consTrim, trim, beside, spaced, zerosThenBlanks}
-use Rattle.paper.proofs.Laws.{next, ended}
+use Rattle.paper.specs.Bytes.{bit, count, every, any, isLetter, isSpace, isZero, blank}
+use Rattle.paper.specs.Fields.{consTrim, trim, beside, spaced, isLess, nameByte, name, zerosThenBlanks}
+use Rattle.paper.proofs.Laws.{next, ended, never}
+use Rattle.paper.proofs.Flow.{and-right}
 use Rattle.text.proofs.Laws.{any-again, any-yes, any-no}
 
 -- all that stands after n bytes
@@ -87,6 +88,29 @@ module _ (p q : ℕ → Bool) (s : List ℕ) (i : ℕ) (f : Bool) (v : beside p 
       go (x ∷ y ∷ l) e = absurd (omega (arith, length-drop (i - 1) s, ap length e))
 
 pub ruleset beside-loop = (beside-again, beside-done)
+
+neither : (a b : Bool) → (a || b) ≡ false → (a ≡ false) × (b ≡ false)
+neither true b h = absurd (never (sym h))
+neither false b h = (refl, h)
+
+-- a byte that is not there stands beside no other
+pub none-beside : (p q : ℕ → Bool) (s : List ℕ) → any p s ≡ false → false ≡ (beside p q s || beside q p s)
+none-beside p q [] h = refl
+none-beside p q (x ∷ []) h = refl
+none-beside p q (x ∷ y ∷ s) h =
+    let a = neither (p x) (any p (y ∷ s)) h in
+    let b = neither (p y) (any p s) (a .1) in
+    rw (a .0, and-right (q x) (p y) (b .0)) (none-beside p q (y ∷ s) (a .1))
+
+-- a name, with one test for both sides of a "<"
+pub name-less : (s : List ℕ) → (spaced s && isLetter (getD s 0 0) && every nameByte s && not (beside isLess isSpace s || beside isSpace isLess s)) ≡ name s
+unfolding name
+name-less s = go (spaced s && isLetter (getD s 0 0) && every nameByte s) (beside isLess isSpace s) (beside isSpace isLess s)
+  where
+    go : (x a b : Bool) → (x && not (a || b)) ≡ (x && not a && not b)
+    go false a b = refl
+    go true false b = refl
+    go true true b = refl
 
 -- the first byte, whatever stands for none
 pub first-of : (t : List ℕ) → (length t ≡ 0 → ⊥) → getD t 0 32 ≡ getD t 0 0

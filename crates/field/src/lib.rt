@@ -3,8 +3,8 @@ ghost use mathlib.Core.Path.{_≡_};
 ghost use mathlib.Core.Bool.{_||_};
 ghost use Prim.Native.Nat.{_≤_};
 ghost use lib.Dec.{eqb, leb};
-ghost use Rattle.paper.specs.Bytes.{bit, every, any, count, isLetter};
-ghost use Rattle.paper.specs.Fields.{trim, beside, spaced, nameByte, name, isAlnum, streetByte, street, cityByte, city, accountByte, account, routing, digitsThen, zip, zipEnds00, zerosThenBlanks, hhmm};
+ghost use Rattle.paper.specs.Bytes.{bit, every, any, count, isLetter, isSpace};
+ghost use Rattle.paper.specs.Fields.{trim, beside, spaced, isLess, nameByte, name, isAlnum, streetByte, street, cityByte, city, accountByte, account, routing, digitsThen, zip, zipEnds00, zerosThenBlanks, hhmm};
 
 // Without the spaces at its end.
 fn trimmed(s: &[u8]) -> &[u8]
@@ -44,6 +44,16 @@ fn spaced(s: &[u8]) -> bool
     !text::is_space(t[0]) & !beside(t, b' ', b' ')
 }
 
+// A "<" stands beside a space.
+fn loose_less(s: &[u8]) -> bool
+    ensures { λ r. ⌜ r ≡ (beside isLess isSpace (now (s .entry)) || beside isSpace isLess (now (s .entry))) ⌝ }
+{
+    if !text::has(s, b'<') {
+        return false;
+    }
+    beside(s, b'<', b' ') | beside(s, b' ', b'<')
+}
+
 fn name_byte(x: u8) -> bool
     ensures { λ r. ⌜ r ≡ nameByte x ⌝ }
 {
@@ -65,11 +75,7 @@ fn name_bytes(s: &[u8]) -> bool
 pub fn name(s: &[u8]) -> bool
     ensures { λ r. ⌜ r ≡ name (now (s .entry)) ⌝ }
 {
-    spaced(s)
-        & text::is_letter(text::byte(s, 0))
-        & name_bytes(s)
-        & !beside(s, b'<', b' ')
-        & !beside(s, b' ', b'<')
+    spaced(s) & text::is_letter(text::byte(s, 0)) & name_bytes(s) & !loose_less(s)
 }
 
 fn is_alnum(x: u8) -> bool

@@ -143,7 +143,7 @@ fn not_above(f: &[u8], past: u64, size: u64) -> bool
     if past == 0 {
         return false;
     }
-    text::digits(f) & (words::number_of(f) <= (past - 1) % size)
+    text::digits(f) & (text::number_of(f) <= (past - 1) % size)
 }
 
 // The rules on the form and its head, before later ones.

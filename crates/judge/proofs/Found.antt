@@ -2,24 +2,22 @@
 use mathlib.Core.Path.{_≡_, refl, sym, ap, _∙_, subst}
 use mathlib.Core.Bool.{Bool, true, false, cond, _&&_, _||_}
 use mathlib.Core.List.{List, [], _∷_, _++_, map, map-append, append-nil}
-use Prim.Native.Nat.{ℕ, zero, suc, _+_, _-_, _≤_, _<_, min}
+use Prim.Native.Nat.{ℕ, _+_, _-_, _≤_, _<_}
 use native.Mathlib.Omega.{arith}
 use lib.Count.{ones}
 use lib.Dec.{eqb}
 use lib.ListN.{length, take, drop, length-append, length-map}
-use lib.Seq.{take-take}
-use borrow.Author.Tests.{ne-eqb, eq-eqb, eqb-true}
+use borrow.Author.Tests.{eqb-true}
 use Rattle.paper.specs.declared.Facts.{Facts}
 use Rattle.paper.specs.declared.Kind.{Kind}
 use Rattle.paper.specs.declared.Kind.the-variants.{TranA, TranB, Form, Unknown, Payment, Auth, Summary, Recap, Stray}
-use Rattle.paper.specs.declared.Layout.the-variants.{L4868, LPayment}
-use Rattle.paper.specs.Bytes.{Bytes, bytes, bit, every, any, those, empty, joined, part, digits, blanks}
+use Rattle.paper.specs.Bytes.{Bytes, bytes, bit, every, any, those, empty, joined, digits, blanks}
 use Rattle.paper.specs.Layouts.{form4868, payment, entry, field}
 use Rattle.paper.specs.Walk.{kindOf, is, opens, goesOn}
 use Rattle.paper.specs.Conditions.{Sight, View, sight, view, holds, rulesOf}
 use Rattle.paper.specs.Judge.{Item, Finding, mark, typeAt, occurrenceAt, findsIn, findsFrom}
 use Rattle.paper.specs.File.{onAuth as onAuthFound}
-use Rattle.paper.proofs.Laws.{never, both}
+use Rattle.paper.proofs.Laws.{never, both, part-take}
 use Rattle.paper.proofs.KindLaws.{kind-fits, kind-length}
 use Rattle.walk.specs.declared.Head.{Head}
 use Rattle.walk.specs.Heads.{front, left, headOf}
@@ -27,13 +25,12 @@ use Rattle.walk.specs.declared.Extent.{Extent}
 use Rattle.walk.specs.Parts.{ownIn, docHere, sizes, extentOf}
 use Rattle.walk.proofs.Docs.{own-here}
 use Rattle.walk.proofs.Facts.{head-kind, head-part, head-left, head-fits, goes-some, others-here, doc-fits}
-use Rattle.words.specs.Sets.{bitsBy}
 use Rattle.rules.specs.declared.Before.{Before}
 use Rattle.rules.specs.Sets.{othersOf, chosen}
 use Rattle.rules.proofs.Laws.{chosen-those, bits-none, bits-ones, few-rules, others-are}
 use Rattle.judge.specs.Kept.{Broke, brokeIf, onAuth, total, Held, added}
 use Rattle.judge.specs.Judged.{bankFor, itemIn, setIn, brokeFrom, counts}
-use Rattle.judge.proofs.Kept.{added-nil, added-append, any-append, total-append, take-append}
+use Rattle.judge.proofs.Kept.{added-nil, added-append, any-append, total-append}
 
 -- THE RECORDS AFTER THE FIRST
 
@@ -253,12 +250,6 @@ module _ (s : Sight) where
       ∙ sym (empty-append (findsIn k v) _)
 
 -- READ IN THE TRANSMISSION
-
-part-take : (n a w : ℕ) (l : Bytes) → a + w ≤ n → part a w (take n l) ≡ part a w l
-part-take n zero w l h = take-take w n l (omega arith)
-part-take zero (suc a) w l h = absurd (omega arith)
-part-take (suc n) (suc a) w [] h = refl
-part-take (suc n) (suc a) w (x ∷ l) h = part-take n a w l (omega arith)
 
 -- what an Error record shows of a record is read in its first 42 bytes
 pub shows : (k : Kind) (n : ℕ) (s : Bytes) (rule : ℕ) → 42 ≤ n → mark k s rule ≡ mark k (take n s) rule

@@ -5,7 +5,6 @@ use mathlib.Core.List.{List, [], _∷_, _++_, map, map-append}
 use Prim.Native.Nat.{ℕ, zero, suc, _+_, _-_, _≤_, _<_, min}
 use native.Mathlib.Omega.{arith}
 use lib.Count.{ones}
-use lib.Dec.{eqb}
 use lib.ListN.{length, take, drop, set, length-take, length-append, length-map}
 use lib.Seq.{sets, sets-eq, take-at, take-nil}
 use borrow.Author.Tests.{eq-eqb, ne-eqb}

@@ -1,12 +1,11 @@
 -- What the layer above asks of an accepted document, and of the pack. Assumes nothing.
-use mathlib.Core.Path.{_≡_, refl, sym, ap, _∙_, subst}
+use mathlib.Core.Path.{_≡_, refl, sym, ap, _∙_}
 use mathlib.Core.Bool.{Bool, true, false, not, cond}
 use mathlib.Core.List.{List, [], _∷_, _++_, map}
 use Prim.Native.Nat.{ℕ, zero, suc, _≤_, _<_}
 use native.Mathlib.Omega.{arith}
 use lib.Dec.{lit<}
-use lib.ListN.{length, take, drop, getD}
-use Rattle.paper.specs.declared.Facts.{Facts}
+use lib.ListN.{length, getD}
 use Rattle.paper.specs.declared.Kind.{Kind}
 use Rattle.paper.specs.declared.Kind.the-variants.{TranA, TranB, Form, Unknown, Payment, Auth, Summary, Recap, Stray}
 use Rattle.paper.specs.declared.Layout.the-variants.{L4868, LPayment}
@@ -14,8 +13,8 @@ use Rattle.paper.specs.Bytes.{Bytes, digits, those, empty, firstOr}
 use Rattle.paper.specs.Layouts.{field}
 use Rattle.paper.specs.Pack.{Lines, Blocks, wellFormed, blockOf, blocksOf, linesOf}
 use Rattle.paper.specs.Walk.{Doc, kindOf, is, opens}
-use Rattle.paper.specs.Conditions.{View, view, pick, form0010, formHolds, formRules, holds, rulesOf, unknownRules, factsOf}
-use Rattle.paper.specs.Judge.{Before, Case, Finding, Turn, known, ssnOf, spouseOf, stateOf, itemOf, ifKnown, asked, mark, findsIn, findings, letterBy, twice, letterOf, isA, sightOf, turn}
+use Rattle.paper.specs.Conditions.{View, view, pick, form0010, formHolds, formRules, holds, rulesOf, factsOf}
+use Rattle.paper.specs.Judge.{Before, Finding, Turn, known, ssnOf, spouseOf, stateOf, itemOf, asked, mark, findsIn, findings, letterBy, twice, letterOf, isA, sightOf, turn}
 use Rattle.paper.proofs.Laws.{never}
 use Rattle.walk.specs.declared.Extent.{Extent}
 use Rattle.walk.specs.Parts.{docHere, docRecords, extentOf}

@@ -1,6 +1,6 @@
 -- The letter, the records of a document that break a rule, and the judgment. Assumes nothing.
 use mathlib.Core.Path.{_≡_, refl, sym, ap, _∙_}
-use mathlib.Core.Bool.{Bool, true, false, not, cond, _&&_, _||_}
+use mathlib.Core.Bool.{Bool, true, false, not, cond, _||_}
 use mathlib.Core.List.{List, [], _∷_, _++_, map, append-nil}
 use Prim.Native.Nat.{ℕ, suc, _+_, _-_, _≤_, _<_, min}
 use native.Mathlib.Omega.{arith}
@@ -17,8 +17,8 @@ use Rattle.paper.specs.declared.Letter.the-variants.{R, D}
 use Rattle.paper.specs.Bytes.{Bytes, bit, every, those, empty, member, firstOr, written}
 use Rattle.paper.specs.Layouts.{form4868, entry, field}
 use Rattle.paper.specs.Pack.{Lines, linesIn}
-use Rattle.paper.specs.Walk.{Doc, named, kindOf, is, opens, goesOn}
-use Rattle.paper.specs.Conditions.{Sight, View, sight, view, factsOf, formRules, rulesOf}
+use Rattle.paper.specs.Walk.{Doc, kindOf, is, opens, goesOn}
+use Rattle.paper.specs.Conditions.{Sight, View, sight, view, formRules}
 use Rattle.paper.specs.Judge.{Case, Turn, known, ssnOf, spouseOf, stateOf, itemOf, ifKnown, asked, findings, letterBy, twice, letterOf, sightOf, turn}
 use Rattle.paper.proofs.Laws.{never}
 use Rattle.paper.proofs.KindLaws.{is-eq}
@@ -27,8 +27,8 @@ use Rattle.words.specs.Sets.{bitOn, bitsBy}
 use Rattle.words.specs.Past.{earlier}
 use Rattle.form.specs.Breaks.{breaks}
 use Rattle.walk.specs.declared.Extent.{Extent}
-use Rattle.walk.specs.Heads.{front, sized}
-use Rattle.walk.specs.Parts.{ownIn, docIf, docHere, docRecords, sizes, extentOf}
+use Rattle.walk.specs.Heads.{front}
+use Rattle.walk.specs.Parts.{docIf, docHere, extentOf}
 use Rattle.walk.proofs.Docs.{own-goes}
 use Rattle.walk.proofs.Records.{kind-none}
 use Rattle.walk.proofs.Laws.{as-part}
@@ -36,7 +36,7 @@ use Rattle.walk.proofs.Facts.{others-here, main-here, doc-fits}
 use Rattle.judge.specs.declared.Past.{Past}
 use Rattle.judge.specs.declared.Judged.{Judged}
 use Rattle.judge.specs.Kept.{Broke, brokeIf, noFindings, Held, held, listed, counted, keptOf, added}
-use Rattle.judge.specs.Seen.{numbersIn, seenBy, nextPast, nextRow, pastAfter, rowAfter}
+use Rattle.judge.specs.Seen.{numbersIn, seenBy, nextPast, nextRow, rowAfter}
 use Rattle.judge.specs.Judged.{oneLine, searched, bankFor, itemIn, setIn, brokeFrom, sightIn, formBroke, brokeIn, judgmentOf, judgedOf}
 use Rattle.judge.proofs.Kept.{added-none, added-append, none-few, held-counted, held-listed}
 use Rattle.judge.proofs.Found.{others-same, empty-found}

@@ -8,7 +8,6 @@ use Rattle.paper.specs.declared.Layout.the-variants.{L4868}
 use Rattle.paper.specs.declared.Letter.{Letter}
 use Rattle.paper.specs.Bytes.{Bytes, those, digits, number, written}
 use Rattle.paper.specs.Layouts.{field}
-use Rattle.paper.specs.Walk.{Doc}
 use Rattle.paper.specs.Judge.{Before, known, isA, Turn, letterOf}
 use Rattle.words.specs.Past.{earlier}
 use Rattle.judge.specs.declared.Past.{Past}

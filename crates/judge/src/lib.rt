@@ -119,7 +119,7 @@ fn is_accepted(ssn: &[u8], past: Past, row: &[u32]) -> bool
     if !text::digits(ssn) {
         return false;
     }
-    let key = words::number_of(ssn) as u32;
+    let key = text::number_of(ssn) as u32;
     is_among(key, row, lesser(row.len(), past.n))
 }
 
@@ -138,7 +138,7 @@ fn number_after(f: &[u8], n: u64) -> u64
     requires { ⌜ length (now f) ≤ 16 ⌝ }
     ensures { λ r. ⌜ r ≡ numberAfter (now (f .entry)) n ⌝ }
 {
-    let number = words::number_of(f) + 1;
+    let number = text::number_of(f) + 1;
     if !text::digits(f) {
         return n;
     }
@@ -157,7 +157,7 @@ fn pass(form: &[u8], letter: Letter, past: Past, row: &mut [u32]) -> Past
     if !is_a(letter) | (row.len() <= n) {
         return Past { dsn, dcn, n };
     }
-    let ssn = words::number_of(layout::field_of(Layout::L4868, 90, form));
+    let ssn = text::number_of(layout::field_of(Layout::L4868, 90, form));
     row[n] = (ssn % 4294967296) as u32;
     Past { dsn, dcn, n: n + 1 }
 }

@@ -18,7 +18,7 @@ ghost use Rattle.text.specs.Words.{high, keyNumber};
 ghost use Rattle.lines.specs.Body.{goodRows, rankOf};
 
 // The width of a line, by the block's kind.
-pub fn width_of(kind: u8) -> usize
+fn width_of(kind: u8) -> usize
     ensures { λ r. ⌜ r ≡ widthOf kind ⌝ }
 {
     match kind {

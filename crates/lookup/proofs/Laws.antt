@@ -5,7 +5,7 @@ use mathlib.Core.Logic.{_⊎_, ⊎-elim}
 use mathlib.Core.Bool.{Bool, true, false, _&&_, cond}
 use mathlib.Core.List.{List, [], _∷_}
 use Prim.Native.Nat.{ℕ, zero, suc, _+_, _-_, _*_, _/_, _%_, _≤_, _<_, zero-le, suc-le-suc}
-use native.Mathlib.Nat.{zero-mul, suc-mul, add-comm, le-of-suc-le-suc, not-suc-le-zero, div-eq-of-lt, div-eq-sub-div}
+use native.Mathlib.Nat.{zero-mul, suc-mul, add-comm, le-of-suc-le-suc, not-suc-le-zero}
 use native.Mathlib.Omega.{arith}
 use lib.Dec.{ltb, eqb}
 use lib.ListN.{length, getD, take, drop, length-take, length-drop}
@@ -174,21 +174,6 @@ pub first-sought : (b : Blocks) (k : ℕ) (key : Bytes) → lineIn (widthOf k) k
 unfolding sought
 first-sought b k key = found-first (widthOf k) key (block b k) (width-some k)
 
--- there is no whole line in too few bytes
-pub no-lines : (w : ℕ) (s : Bytes) → 0 < w → empty (linesIn w s) ≡ ltb (length s) w
-unfolding linesIn
-no-lines w s some = go (ltb (length s) w) refl
-  where
-    any-row : (n : ℕ) → 0 < n → empty (rows n w s) ≡ false
-    any-row zero h = absurd (not-suc-le-zero h)
-    any-row (suc n) h = refl
-
-    go : (b : Bool) → ltb (length s) w ≡ b → empty (rows (length s / w) w s) ≡ b
-    go true e = ap (λ (n : ℕ). empty (rows n w s)) (div-eq-of-lt (ltb-true (length s) w e))
-    go false e =
-        let one-more : length s / w ≡ (length s - w) / w + 1 = div-eq-sub-div some (ltb-false (length s) w e) in
-        any-row (length s / w) (omega (arith, one-more))
-
 -- by the kinds of the blocks; the code's widths stand in place of `widthOf`
 module _ (b : Blocks) (key : Bytes) where
   pub taxpayer-sought : lineIn 33 key (b .one) ≡ firstOr (sought b 1 key)
@@ -265,7 +250,3 @@ module _ (s : Bytes) (well : wellFormed s ≡ true) where
     unfolding sought
     rows-found =
         ap (λ (b : Bytes). linesIn (widthOf k) (rowsIn (widthOf k) key b)) (sym (block-is k h l)) ∙ (λ i. sought-lines i k key)
-
-  pub states-found : (key : Bytes) → linesIn 8 (rowsIn 8 key (blockOf 4 s)) ≡ linesOf (blocksOf s) 4 key
-  unfolding widthOf
-  states-found key = rows-found 4 key (omega arith) (omega arith)

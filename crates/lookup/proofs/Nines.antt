@@ -3,12 +3,12 @@ use mathlib.Core.Path.{_≡_, sym, ap, _∙_}
 use mathlib.Core.Bool.{Bool, true}
 use Prim.Native.Nat.{ℕ}
 use native.Mathlib.Omega.{arith}
-use lib.Dec.{eqb, ltb}
+use lib.Dec.{ltb}
 use lib.ListN.{length, take}
 use lib.Seq.{take-all}
-use Rattle.paper.specs.Bytes.{Bytes, every, same, before, part}
+use Rattle.paper.specs.Bytes.{Bytes, every, before, part}
 use Rattle.text.specs.Words.{isByte, high}
-use Rattle.text.proofs.Words.{before-high, same-high}
+use Rattle.text.proofs.Words.{before-high}
 
 -- the key `&a[0..9]` of nine bytes
 module _ (a : Bytes) (l : length a ≡ 9) where
@@ -25,8 +25,3 @@ module _ (a b : Bytes) (l : length a ≡ 9) (m : length b ≡ 9) (x y : ℕ) (e 
   nine-before q =
       q ∙ (λ i. ltb ((e ∙ ap (high 16) (nine-whole a l)) i) ((f ∙ ap (high 16) (nine-whole b m)) i))
       ∙ sym (before-high 16 a b (nine-bytes a l h) (nine-bytes b m g) (l ∙ sym m) (omega arith))
-
-  pub nine-same : r ≡ eqb x y → r ≡ same a b
-  nine-same q =
-      q ∙ (λ i. eqb ((e ∙ ap (high 16) (nine-whole a l)) i) ((f ∙ ap (high 16) (nine-whole b m)) i))
-      ∙ sym (same-high 16 a b (nine-bytes a l h) (nine-bytes b m g) (l ∙ sym m) (omega arith))

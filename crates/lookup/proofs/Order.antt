@@ -77,13 +77,6 @@ before-total (x ∷ s) (y ∷ t) e = go (ltb x y) refl (eqb x y) refl e (before-
     go false h true l f r =
         ⊎-elim (λ (b : before t s ≡ true). inl (later y x t s (sym (eqb-true x y l)) b)) (λ (b : s ≡ t). inr (λ i. eqb-true x y l i ∷ b i)) (r f)
 
-pub before-back : (a b : Bytes) → before a b ≡ true → before b a ≡ false
-before-back a b h = go (before b a) refl
-  where
-    go : (q : Bool) → before b a ≡ q → q ≡ false
-    go true e = absurd (before-irrefl a (before-trans a b a h e))
-    go false e = refl
-
 -- a not after b, b before c
 pub before-left : (a b c : Bytes) → before b a ≡ false → before b c ≡ true → before a c ≡ true
 before-left a b c h e = ⊎-elim (λ (l : before a b ≡ true). before-trans a b c l e) (λ (l : b ≡ a). subst (λ (x : Bytes). before x c ≡ true) l e) (before-total b a h)

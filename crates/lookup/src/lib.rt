@@ -1,6 +1,5 @@
 // The lines of a key in a block whose lines ascend, by halves.
 use text::is_before;
-use text::is_equal;
 use text::is_lower;
 use text::is_same;
 use text::key_of;
@@ -8,7 +7,7 @@ use text::piece;
 ghost use mathlib.Core.Path.{_≡_};
 ghost use Prim.Native.Nat.{_+_, _*_, _≤_};
 ghost use lib.ListN.{length, drop};
-ghost use Rattle.paper.specs.Bytes.{any, same, before};
+ghost use Rattle.paper.specs.Bytes.{any, before};
 ghost use Rattle.paper.specs.Pack.{rows, linesIn};
 ghost use Rattle.paper.specs.Conditions.{covers};
 ghost use Rattle.lookup.specs.Find.{countFor, placeFor, lead, lineIn, rowsIn};
@@ -24,18 +23,6 @@ fn key_before(a: &[u8], b: &[u8]) -> bool
         return is_before(a, b);
     }
     is_lower(key_of(&a[0..9]), key_of(&b[0..9]))
-}
-
-fn key_same(a: &[u8], b: &[u8]) -> bool
-    ensures { λ r. ⌜ r ≡ same (now (a .entry)) (now (b .entry)) ⌝ }
-{
-    if a.len() != 9 {
-        return is_same(a, b);
-    }
-    if b.len() != 9 {
-        return is_same(a, b);
-    }
-    is_equal(key_of(&a[0..9]), key_of(&b[0..9]))
 }
 
 // How many lines there are to look at: none for a key that is wider than a line.
@@ -80,7 +67,7 @@ fn run_end(block: &[u8], width: usize, from: usize, count: usize, key: &[u8]) ->
     let mut left = count;
     while 0 < left {
         let to = at + key.len();
-        if !key_same(&block[at..to], key) {
+        if !is_same(&block[at..to], key) {
             return at;
         }
         at += width;
@@ -100,7 +87,7 @@ pub fn line_of<'a>(block: &'a [u8], width: usize, key: &[u8]) -> &'a [u8]
     }
     let at = i * width;
     let to = at + key.len();
-    if !key_same(&block[at..to], key) {
+    if !is_same(&block[at..to], key) {
         return &block[0..0];
     }
     let end = at + width;

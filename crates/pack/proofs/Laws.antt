@@ -2,15 +2,15 @@
 -- Assumes nothing.
 use mathlib.Core.Path.{_≡_, refl, sym, ap, _∙_, subst}
 use mathlib.Core.Bool.{Bool, true, false, _&&_, not, cond}
-use Prim.Native.Nat.{ℕ, zero, suc, _+_, _-_, _/_, _≤_, _<_}
+use Prim.Native.Nat.{ℕ, zero, suc, _+_, _-_, _≤_, _<_}
 use native.Mathlib.Nat.{not-suc-le-zero, le-of-suc-le-suc}
 use native.Mathlib.Omega.{arith}
 use lib.Dec.{leb}
 use lib.ListN.{length, take, drop, length-drop}
 use lib.Seq.{drop-drop}
-use borrow.Author.Tests.{le-leb, lt-leb, leb-true, not-true, not-false}
+use borrow.Author.Tests.{le-leb, lt-leb, not-true, not-false}
 use Rattle.paper.specs.Bytes.{Bytes}
-use Rattle.paper.specs.Pack.{widthOf, sizeSaid, body, after, goodBody, goodBlock, goodBlocks, wellFormed, skip, blockOf, Blocks, blocksOf}
+use Rattle.paper.specs.Pack.{sizeSaid, body, after, goodBody, goodBlock, goodBlocks, wellFormed, skip, blockOf, Blocks, blocksOf}
 use Rattle.pack.specs.declared.Place.{Place}
 use Rattle.pack.specs.declared.Places.{Places}
 use Rattle.pack.specs.declared.Shape.the-variants.{Good, Bad}
@@ -74,21 +74,14 @@ module _ (s : Bytes) (well : wellFormed s ≡ true) where
       in
       omega (arith, fits, length-drop at s)
 
-  pub not-long : length s ≤ 65536
-  unfolding wellFormed
-  not-long = leb-true (length s) 65536 (both (leb (length s) 65536) _ well .0)
-
 -- the place at a place
-pub place-told : (k at z w : ℕ) (s : Bytes) → z ≡ sizeSaid (take (length s - at) (drop at s)) → w ≡ widthOf k
-    → _≡_ {A = Place} (record { start = at + 6; size = z; lines = z / w }) (placeAt at k s)
+pub place-told : (at z : ℕ) (s : Bytes) → z ≡ sizeSaid (take (length s - at) (drop at s)) → _≡_ {A = Place} (record { start = at + 6; size = z }) (placeAt at s)
 unfolding placeAt
-place-told k at z w s f g =
-    let e : z ≡ sizeSaid (drop at s) = f ∙ ap sizeSaid (tail-is s at) in
-    λ i. record { start = at + 6; size = e i; lines = e i / g i }
+place-told at z s f = let e : z ≡ sizeSaid (drop at s) = f ∙ ap sizeSaid (tail-is s at) in λ i. record { start = at + 6; size = e i }
 
 -- each place after the one before
-pub place-next : (k : ℕ) (s : Bytes) (a b : Place) → a ≡ placeOf k s → b ≡ placeAt (past a) (suc k) s → b ≡ placeOf (suc k) s
-place-next k s a b e f = f ∙ ap (λ (p : Place). placeAt (past p) (suc k) s) e
+pub place-next : (k : ℕ) (s : Bytes) (a b : Place) → a ≡ placeOf k s → b ≡ placeAt (past a) s → b ≡ placeOf (suc k) s
+place-next k s a b e f = f ∙ ap (λ (p : Place). placeAt (past p) s) e
 
 -- the answer
 pub shape-long : (s : Bytes) → 65536 < length s → Bad ≡ shapeOf s

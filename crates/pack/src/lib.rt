@@ -1,6 +1,5 @@
 // The reference pack: whether it is well formed, and where its five blocks of lines stand.
 use lines::good_body;
-use lines::width_of;
 use text::byte;
 use text::piece;
 ghost use mathlib.Core.Path.{_≡_};
@@ -9,11 +8,10 @@ ghost use lib.ListN.{length, getD};
 ghost use Rattle.paper.specs.Pack.{sizeSaid, kindSaid, goodBlock, goodBlocks};
 ghost use Rattle.pack.specs.Shape.{placeAt, linesAt, shapeOf};
 
-// Where a block's lines start, how many bytes and how many lines they are.
+// Where a block's lines start, and how many bytes they are.
 pub struct Place {
     pub start: usize,
     pub size: usize,
-    pub lines: usize,
 }
 
 // The places of the blocks of the kinds 1 to 5.
@@ -82,16 +80,15 @@ fn good_blocks(pack: &[u8]) -> bool
     at == pack.len()
 }
 
-// Where the lines of the block of this kind stand that starts at a place.
-fn place_at(pack: &[u8], at: usize, kind: u8) -> Place
+// Where the lines of the block stand that starts at a place.
+fn place_at(pack: &[u8], at: usize) -> Place
     requires { ⌜ (at ≤ length (now pack)) × (length (now pack) ≤ 65536) ⌝ }
-    ensures { λ r. ⌜ r ≡ placeAt at kind (now (pack .entry)) ⌝ }
+    ensures { λ r. ⌜ r ≡ placeAt at (now (pack .entry)) ⌝ }
 {
     let size = size_said(&pack[at..]);
     Place {
         start: at + 6,
         size,
-        lines: size / width_of(kind),
     }
 }
 
@@ -105,11 +102,11 @@ pub fn check(pack: &[u8]) -> Shape
     if !good_blocks(pack) {
         return Shape::Bad;
     }
-    let one = place_at(pack, 0, 1);
-    let two = place_at(pack, one.start + one.size, 2);
-    let three = place_at(pack, two.start + two.size, 3);
-    let four = place_at(pack, three.start + three.size, 4);
-    let five = place_at(pack, four.start + four.size, 5);
+    let one = place_at(pack, 0);
+    let two = place_at(pack, one.start + one.size);
+    let three = place_at(pack, two.start + two.size);
+    let four = place_at(pack, three.start + three.size);
+    let five = place_at(pack, four.start + four.size);
     Shape::Good(Places {
         one,
         two,

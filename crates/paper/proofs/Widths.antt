@@ -4,9 +4,9 @@ use mathlib.Core.Bool.{Bool, true, false, cond}
 use mathlib.Core.List.{List, [], _∷_}
 use mathlib.Core.Path.{_≡_, refl, sym, ap, _∙_}
 use native.Mathlib.Omega.{arith}
-use lib.ListN.{length, take, drop, getD, length-take, length-drop}
+use lib.ListN.{length, drop, getD, length-take, length-drop}
 use Rattle.paper.specs.declared.Kind.the-variants.{TranA, Form, Payment}
-use Rattle.paper.specs.declared.Layout.the-variants.{L4868, LPayment, LTrana}
+use Rattle.paper.specs.declared.Layout.the-variants.{L4868, LPayment}
 use Rattle.paper.specs.declared.Order.the-variants.{First, Second, Broken}
 use Rattle.paper.specs.Bytes.{Bytes, part}
 use Rattle.paper.specs.Layouts.{form4868, payment, trana, entry, field, through}

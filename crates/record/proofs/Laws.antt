@@ -1,15 +1,15 @@
 -- A record written at a place of an output. Assumes nothing.
 use mathlib.Core.Path.{_≡_, refl, sym, ap, _∙_}
-use mathlib.Core.Bool.{Bool, true, false, cond, _&&_}
+use mathlib.Core.Bool.{Bool, true, false, not, _&&_}
 use mathlib.Core.List.{[], _∷_, _++_, append-nil, append-assoc}
 use Prim.{tt}
 use Prim.Native.Nat.{ℕ, suc, _+_, _-_, _/_, _%_, _<_, _≤_}
 use native.Mathlib.Omega.{arith}
-use borrow.Author.Tests.{le-leb, lt-leb, lt-ltb, leb-true, ltb-false}
-use lib.Dec.{leb, ltb, lit≤}
+use borrow.Author.Tests.{le-leb, lt-ltb, leb-true, not-true, not-false}
+use lib.Dec.{leb, lit≤}
 use lib.ListN.{length, take, drop, getD, set, length-take, length-drop, take-append-drop}
 use lib.Seq.{sets, sets-eq, length-sets, set-set, set-comm, length-take-le, take-all, take-add, drop-drop}
-use Rattle.paper.proofs.Laws.{ended, never, both, take-next}
+use Rattle.paper.proofs.Laws.{ended, both, take-next}
 use Rattle.paper.specs.declared.Layout.the-variants.{LError}
 use Rattle.paper.specs.Bytes.{Bytes, bytes, every, part, written, laid}
 use Rattle.paper.specs.Layouts.{entry, ackError}
@@ -18,22 +18,28 @@ use Rattle.paper.proofs.RecordSizes.{length-laid}
 use Rattle.text.specs.Words.{isByte, little, bytesOf, wordLaid}
 use Rattle.text.proofs.Laying.{laid-append}
 use Rattle.text.proofs.Words.{bytes-little, stores, word-fits}
-use Rattle.record.specs.Parts.{spans, errorModel, errorBy, placed}
+use Rattle.record.specs.Parts.{errorModel, errorBy, placed}
 
-module _ (out r : Bytes) (at : ℕ) where
+-- what the test of the room says where it holds
+pub fits-told : (n room at : ℕ) (f : Bool) → f ≡ leb (at + n) room → not f ≡ false → at + n ≤ room
+fits-told n room at f e h = leb-true (at + n) room (sym e ∙ not-false f h)
+
+module _ (out r : Bytes) (at : ℕ) (f : Bool) (e : f ≡ leb (at + 120) (length out)) where
   -- no room
-  pub not-placed : length out < at + 120 → out ≡ placed out at r
+  pub not-placed : not f ≡ true → out ≡ placed out at r
   unfolding placed
-  not-placed h = rw (lt-leb _ _ h)
+  not-placed h = rw (sym e ∙ not-true f h)
 
-  -- the k bytes from the place on, which are 120, made the record
-  pub lent-placed : (k : ℕ) (new : Bytes) → k ≡ 120 → at + 120 ≤ length out → length r ≡ 120 → new ≡ r → take at out ++ (new ++ drop k (drop at out)) ≡ placed out at r
+  -- the 120 bytes from the place on made the record
+  pub lent-placed : not f ≡ false → (new : Bytes) → length r ≡ 120 → new ≡ r → take at out ++ (new ++ drop (at + 120 - at) (drop at out)) ≡ placed out at r
   unfolding placed laid
-  lent-placed k new e h l n =
-      let f : at + length r ≤ length out = omega arith in
-      let p : placed out at r ≡ laid out at r = rw (le-leb _ _ h) in
-      let d : drop k (drop at out) ≡ drop (at + length r) out = drop-drop k at out ∙ ap (λ (m : ℕ). drop (at + m) out) (e ∙ sym l) in
-      (λ i. take at out ++ (n i ++ d i)) ∙ sym (append-assoc (take at out) r (drop (at + length r) out)) ∙ sym (p ∙ sets-eq r out at f)
+  lent-placed h new l n =
+      let g : at + 120 ≤ length out = fits-told 120 (length out) at f e h in
+      let w : at + length r ≤ length out = omega arith in
+      let k : at + (at + 120 - at) ≡ at + length r = omega arith in
+      let p : placed out at r ≡ laid out at r = rw (le-leb _ _ g) in
+      let d : drop (at + 120 - at) (drop at out) ≡ drop (at + length r) out = drop-drop (at + 120 - at) at out ∙ ap (λ (m : ℕ). drop m out) k in
+      (λ i. take at out ++ (n i ++ d i)) ∙ sym (append-assoc (take at out) r (drop (at + length r) out)) ∙ sym (p ∙ sets-eq r out at w)
 
 -- bytes, and as many over them
 pub all-over : (r s : Bytes) → length r ≡ length s → laid r 0 s ≡ s
@@ -44,23 +50,17 @@ all-over r s l =
 
 -- A TEXT BY ITS FIRST AND ITS LAST BYTES
 
-pub record Spans (n w room at : ℕ) : Type 0 where
-  pub least : w ≤ n
-  pub most : n ≤ w + w
+-- it has 4 to 16, and fits
+pub record Spans (n room at : ℕ) : Type 0 where
+  pub least : 4 ≤ n
+  pub most : n ≤ 16
   pub fits : at + n ≤ room
 
-pub spans-told : (n w room at : ℕ) → spans n w room at ≡ true → Spans n w room at
-unfolding spans
-spans-told n w room at e = by (ltb room n) refl e
-  where
-    by : (b : Bool) → ltb room n ≡ b → cond b false ((leb w n && leb n (w + w)) && leb at (room - n)) ≡ true → Spans n w room at
-    by true q e = absurd (never e)
-    by false q e =
-        let p = both (leb w n && leb n (w + w)) (leb at (room - n)) e in
-        let f = both (leb w n) (leb n (w + w)) (p .0) in
-        let h : n ≤ room = ltb-false room n q in
-        let l : at ≤ room - n = leb-true at (room - n) (p .1) in
-        record { least = leb-true w n (f .0); most = leb-true n (w + w) (f .1); fits = omega arith }
+pub spans-told : (n room at : ℕ) (f : Bool) → f ≡ leb (at + n) room → not ((leb 4 n && leb n 16) && f) ≡ false → Spans n room at
+spans-told n room at f e h =
+    let p = both (leb 4 n && leb n 16) f (not-false _ h) in
+    let q = both (leb 4 n) (leb n 16) (p .0) in
+    record { least = leb-true 4 n (q .0); most = leb-true n 16 (q .1); fits = leb-true (at + n) room (sym e ∙ p .1) }
 
 -- a byte stored before a text
 set-sets : (x q : Bytes) (p k b : ℕ) → p < k → set (sets q k x) p b ≡ sets (set q p b) k x
@@ -95,10 +95,9 @@ overlap w s r at h g =
 last-part : (w : ℕ) (s : Bytes) → w ≤ length s → part (length s - w) w s ≡ drop (length s - w) s
 last-part w s h = take-all w (drop (length s - w) s) (omega (arith, length-drop (length s - w) s))
 
-module _ (w : ℕ) (r s o o' : Bytes) (at : ℕ) (p : Spans (length s) w (length r) at) where
-  pub both-parts : o ≡ laid r at (part 0 w s) → o' ≡ laid o (at + (length s - w)) (part (length s - w) w s) → o' ≡ laid r at s
-  both-parts e f =
-      f ∙ (λ i. laid (e i) (at + (length s - w)) (last-part w s (p .least) i)) ∙ overlap w s r at (p .least) (p .most)
+module _ (w : ℕ) (r s o o' : Bytes) (at : ℕ) where
+  pub both-parts : w ≤ length s → length s ≤ w + w → o ≡ laid r at (part 0 w s) → o' ≡ laid o (at + (length s - w)) (part (length s - w) w s) → o' ≡ laid r at s
+  both-parts h g e f = f ∙ (λ i. laid (e i) (at + (length s - w)) (last-part w s h i)) ∙ overlap w s r at h g
 
 -- four bytes of a text
 pub four-parts : (r s : Bytes) (at from : ℕ) → from + 4 ≤ length s
@@ -153,9 +152,9 @@ error-said ssn n id type page occurrence rule text e =
     (below d occurrence _ _ 30 49 (lit≤ tt) (below d page _ _ 30 44 (lit≤ tt) (below d type _ _ 30 38 (lit≤ tt) (below d id _ _ 30 32 (lit≤ tt) refl)))) in
     (λ i. laid (numbered i) 56 (rule-bytes rule text e i)) ∙ below (w ++ v) (bytes "#") _ _ 56 119 (lit≤ tt) (sym (laid-append w v _ 56))
 
-pub length-by : (model : Bytes) (n text : ℕ) → length (errorBy model n text) ≡ length model
+pub length-error : (model : Bytes) (n text : ℕ) → length model ≡ 120 → length (errorBy model n text) ≡ 120
 unfolding errorBy
-length-by model n text = simp length-laid
+length-error model n text l = simp length-laid l
 
 module _ (r model o p q : Bytes) (n text at : ℕ) where
   pub error-laid : length r ≡ 120 → length model ≡ 120 → o ≡ laid r 0 model → p ≡ laid o (entry LError 30 .start) (written 2 n) → at ≡ entry LError 80 .start → q ≡ wordLaid p at text

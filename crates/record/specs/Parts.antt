@@ -1,8 +1,8 @@
 -- How each record of the acknowledgment file begins and ends, the counts of the ACK Recap, and where a record goes. Assumes nothing.
 use Prim.Native.Nat.{ℕ, _+_, _-_}
-use mathlib.Core.Bool.{Bool, false, cond, _&&_}
+use mathlib.Core.Bool.{cond}
 use mathlib.Core.List.{[], _∷_}
-use lib.Dec.{leb, ltb}
+use lib.Dec.{leb}
 use lib.ListN.{length}
 use Rattle.paper.specs.declared.Layout.{Layout}
 use Rattle.paper.specs.declared.Layout.the-variants.{LError, LAckRecap}
@@ -10,10 +10,6 @@ use Rattle.paper.specs.Bytes.{Bytes, bytes, written, zeros, blanks, laid}
 use Rattle.paper.specs.Layouts.{entry}
 use Rattle.paper.specs.File.{fields, recordOf}
 use Rattle.text.specs.Words.{bytesOf}
-
--- a text of n bytes is its first and its last w bytes, and fits into so many bytes at a place
-unfoldable pub spans : ℕ → ℕ → ℕ → ℕ → Bool
-spans n w room at = cond (ltb room n) false ((leb w n && leb n (w + w)) && leb at (room - n))
 
 -- 120 blanks, the byte count, and field 0, the record's id
 unfoldable pub started : Layout → Bytes → Bytes

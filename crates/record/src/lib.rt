@@ -5,23 +5,18 @@ use paper::Verdict;
 ghost use mathlib.Core.Path.{_≡_};
 ghost use mathlib.Core.List.{[], _∷_};
 ghost use Prim.Native.Nat.{_+_, _-_, _≤_};
+ghost use lib.Dec.{leb};
 ghost use lib.ListN.{length};
 ghost use Rattle.paper.specs.Bytes.{part, written, laid};
 ghost use Rattle.paper.specs.Layouts.{entry};
 ghost use Rattle.paper.specs.File.{letterByte, verdictByte, keyRecord, recapRecord};
-ghost use Rattle.record.specs.Parts.{spans, started, ended, counted, errorModel, errorBy, placed};
+ghost use Rattle.record.specs.Parts.{started, ended, counted, errorModel, errorBy, placed};
 
 // What a Key says of its document: the verdict, field 0065 and the number of Error records.
 pub struct Marks {
     pub verdict: Verdict,
     pub pin: u8,
     pub errors: u32,
-}
-
-fn lay_field(r: &mut [u8], l: Layout, number: u32, text: &[u8])
-    ensures { λ _. ⌜ now (r .exit) ≡ laid (now (r .entry)) (entry l number .start) (now (text .entry)) ⌝ }
-{
-    text::lay(r, layout::start_of(l, number), text)
 }
 
 // Four bytes of a text, from a place of it on.
@@ -39,53 +34,46 @@ fn copy_four(r: &mut [u8], at: usize, text: &[u8], from: usize)
     r[at + 3] = d;
 }
 
-// A text of n bytes is its first and its last width bytes, and fits into so many bytes at a place.
-fn spans(n: usize, width: usize, room: usize, at: usize) -> bool
-    requires { ⌜ width ≤ 8 ⌝ }
-    ensures { λ r. ⌜ r ≡ spans n width room at ⌝ }
+fn copy_eight(r: &mut [u8], at: usize, text: &[u8], from: usize)
+    requires { ⌜ (at + 8 ≤ length (now r)) × (from + 8 ≤ length (now text)) ⌝ }
+    ensures { λ _. ⌜ now (r .exit) ≡ laid (now (r .entry)) at (part from 8 (now (text .entry))) ⌝ }
+{
+    text::put_word(r, at, text::word(text, from))
+}
+
+// So many bytes fit into the room from a place on.
+fn fits(n: usize, room: usize, at: usize) -> bool
+    ensures { λ r. ⌜ r ≡ leb (at + n) room ⌝ }
 {
     if room < n {
         return false;
     }
-    (width <= n) & (n <= width + width) & (at <= room - n)
+    if room - n < at {
+        return false;
+    }
+    true
 }
 
-// A text of 4 to 8 bytes, by its first and its last four; any other byte by byte.
-fn lay_short(r: &mut [u8], at: usize, text: &[u8])
+// A text of 8 to 16 bytes by its first and its last eight, one of 4 to 8 by its first and its last four; any other byte by byte.
+fn lay_text(r: &mut [u8], at: usize, text: &[u8])
     ensures { λ _. ⌜ now (r .exit) ≡ laid (now (r .entry)) at (now (text .entry)) ⌝ }
 {
     let n = text.len();
-    if !spans(n, 4, r.len(), at) {
+    if !((4 <= n) & (n <= 16) & fits(n, r.len(), at)) {
         return text::lay(r, at, text);
     }
-    copy_four(r, at, text, 0);
-    copy_four(r, at + (n - 4), text, n - 4)
-}
-
-// A text of 8 to 16 bytes, by its first and its last eight; any other byte by byte.
-fn lay_wide(r: &mut [u8], at: usize, text: &[u8])
-    ensures { λ _. ⌜ now (r .exit) ≡ laid (now (r .entry)) at (now (text .entry)) ⌝ }
-{
-    let n = text.len();
-    if !spans(n, 8, r.len(), at) {
-        return text::lay(r, at, text);
+    if n < 8 {
+        copy_four(r, at, text, 0);
+        return copy_four(r, at + (n - 4), text, n - 4);
     }
-    let first = text::word(text, 0);
-    let last = text::word(text, n - 8);
-    text::put_word(r, at, first);
-    text::put_word(r, at + (n - 8), last)
+    copy_eight(r, at, text, 0);
+    copy_eight(r, at + (n - 8), text, n - 8)
 }
 
-fn short_field(r: &mut [u8], l: Layout, number: u32, text: &[u8])
+fn lay_field(r: &mut [u8], l: Layout, number: u32, text: &[u8])
     ensures { λ _. ⌜ now (r .exit) ≡ laid (now (r .entry)) (entry l number .start) (now (text .entry)) ⌝ }
 {
-    lay_short(r, layout::start_of(l, number), text)
-}
-
-fn wide_field(r: &mut [u8], l: Layout, number: u32, text: &[u8])
-    ensures { λ _. ⌜ now (r .exit) ≡ laid (now (r .entry)) (entry l number .start) (now (text .entry)) ⌝ }
-{
-    lay_wide(r, layout::start_of(l, number), text)
+    lay_text(r, layout::start_of(l, number), text)
 }
 
 fn lay_byte(r: &mut [u8], l: Layout, number: u32, b: u8)
@@ -116,6 +104,7 @@ fn lay_six(r: &mut [u8], l: Layout, number: u32, n: u32)
     lay_field(r, l, number, &text)
 }
 
+// An id is a literal, and is laid byte by byte, which the compiler makes whole in each caller.
 fn start(r: &mut [u8], l: Layout, id: &[u8])
     requires { ⌜ length (now r) ≡ 120 ⌝ }
     ensures { λ _. ⌜ now (r .exit) ≡ started l (now (id .entry)) ⌝ }
@@ -123,7 +112,7 @@ fn start(r: &mut [u8], l: Layout, id: &[u8])
     let blanks = [32u8; 120];
     text::lay(r, 0, &blanks);
     text::lay(r, 0, b"0120****");
-    lay_field(r, l, 0, id)
+    text::lay(r, layout::start_of(l, 0), id)
 }
 
 fn end(r: &mut [u8])
@@ -166,15 +155,15 @@ fn lay_key(
     let v = marks.verdict;
     let verdict = verdict_byte(v);
     start(r, Layout::LKey, b"ACK   ");
-    wide_field(r, Layout::LKey, 20, ssn);
-    wide_field(r, Layout::LKey, 30, sequence);
+    lay_field(r, Layout::LKey, 20, ssn);
+    lay_field(r, Layout::LKey, 30, sequence);
     lay_byte(r, Layout::LKey, 50, verdict);
     lay_byte(r, Layout::LKey, 65, marks.pin);
-    wide_field(r, Layout::LKey, 80, date);
-    wide_field(r, Layout::LKey, 90, control);
+    lay_field(r, Layout::LKey, 80, date);
+    lay_field(r, Layout::LKey, 90, control);
     lay_two(r, Layout::LKey, 100, marks.errors);
     lay_field(r, Layout::LKey, 110, b"00");
-    wide_field(r, Layout::LKey, 115, literal);
+    lay_field(r, Layout::LKey, 115, literal);
     lay_byte(r, Layout::LKey, 117, b'0');
     end(r)
 }
@@ -184,11 +173,11 @@ fn lay_model(r: &mut [u8], ssn: &[u8], id: &[u8], form: &[u8], page: &[u8], occu
     ensures { λ _. ⌜ now (r .exit) ≡ errorModel (now (ssn .entry)) (now (id .entry)) (now (form .entry)) (now (page .entry)) (now (occurrence .entry)) ⌝ }
 {
     start(r, Layout::LError, b"ACKR  ");
-    wide_field(r, Layout::LError, 10, ssn);
-    short_field(r, Layout::LError, 40, id);
-    short_field(r, Layout::LError, 50, form);
-    short_field(r, Layout::LError, 60, page);
-    short_field(r, Layout::LError, 70, occurrence);
+    lay_field(r, Layout::LError, 10, ssn);
+    lay_field(r, Layout::LError, 40, id);
+    lay_field(r, Layout::LError, 50, form);
+    lay_field(r, Layout::LError, 60, page);
+    lay_field(r, Layout::LError, 70, occurrence);
     end(r)
 }
 
@@ -240,7 +229,7 @@ fn lay_recap(r: &mut [u8], recap: &[u8], twelve: &[u8], accepted: u32, all: u32,
         30,
         layout::field_of(Layout::LRecap, 30, recap),
     );
-    wide_field(r, Layout::LAckRecap, 40, twelve);
+    lay_field(r, Layout::LAckRecap, 40, twelve);
     lay_counts(r, accepted, all);
     lay_field(r, Layout::LAckRecap, 140, name);
     end(r)
@@ -261,10 +250,7 @@ pub fn put_key(
 )
     ensures { λ _. ⌜ now (out .exit) ≡ placed (now (out .entry)) at (keyRecord (now (ssn .entry)) (now (sequence .entry)) (marks .verdict) (marks .pin) (now (date .entry)) (now (control .entry)) (marks .errors) (now (literal .entry))) ⌝ }
 {
-    if out.len() < 120 {
-        return;
-    }
-    if out.len() - 120 < at {
+    if !fits(120, out.len(), at) {
         return;
     }
     let end = at + 120;
@@ -283,10 +269,7 @@ pub fn put_key(
 pub fn put_error(out: &mut [u8], at: usize, model: &[u8; 120], n: u32, text: u64)
     ensures { λ _. ⌜ now (out .exit) ≡ placed (now (out .entry)) at (errorBy (now (model .entry)) n text) ⌝ }
 {
-    if out.len() < 120 {
-        return;
-    }
-    if out.len() - 120 < at {
+    if !fits(120, out.len(), at) {
         return;
     }
     let end = at + 120;
@@ -305,10 +288,7 @@ pub fn put_recap(
 )
     ensures { λ _. ⌜ now (out .exit) ≡ placed (now (out .entry)) at (recapRecord (now (recap .entry)) (now (twelve .entry)) accepted all (now (name .entry))) ⌝ }
 {
-    if out.len() < 120 {
-        return;
-    }
-    if out.len() - 120 < at {
+    if !fits(120, out.len(), at) {
         return;
     }
     let end = at + 120;

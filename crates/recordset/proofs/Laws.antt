@@ -1,7 +1,7 @@
 -- A record set is its Key and its Error records, and its length; what is left of bytes from a place on. Assumes nothing.
 use mathlib.Core.Path.{_≡_, refl, sym, ap, _∙_}
 use Prim.Native.Nat.{ℕ, _+_, _-_, _*_, _≤_}
-use mathlib.Core.Bool.{Bool, cond, _&&_}
+use mathlib.Core.Bool.{Bool}
 use mathlib.Core.List.{List, [], _∷_, _++_}
 use lib.ListN.{length, take, drop, length-append, length-drop}
 use lib.Seq.{take-all}
@@ -10,7 +10,7 @@ use Rattle.paper.proofs.Laws.{ended}
 use Rattle.paper.specs.declared.Facts.{Facts}
 use Rattle.paper.specs.declared.Letter.{Letter}
 use Rattle.paper.specs.declared.Layout.the-variants.{L4868}
-use Rattle.paper.specs.Bytes.{Bytes, digits, zeros}
+use Rattle.paper.specs.Bytes.{Bytes}
 use Rattle.paper.specs.Judge.{Finding}
 use Rattle.paper.specs.Layouts.{field}
 use Rattle.paper.specs.File.{orZeros, errorOf, errorsFrom, setBy}
@@ -22,11 +22,6 @@ pub set-parts : (main : Bytes) (known : Bool) (date : Bytes) (l : Letter) (f : F
     ≡ keyOf main known date l f (length found) athFound ++ errorsFrom (orZeros known 9 (field L4868 90 main)) 1 found
 unfolding setBy keyOf
 set-parts main known date l f found athFound = refl
-
--- what `shown` ensures, with that many zeros
-pub shown-zeros : (known : Bool) (n : ℕ) (f : Bytes) → cond (known && digits f) f (zeros n) ≡ orZeros known n f
-unfolding orZeros
-shown-zeros known n f = refl
 
 pub length-keyOf : (main : Bytes) (known : Bool) (date : Bytes) (l : Letter) (f : Facts) (errors : ℕ) (athFound : Bool)
     → length (keyOf main known date l f errors athFound) ≡ 120

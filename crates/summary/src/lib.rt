@@ -12,7 +12,7 @@ ghost use Rattle.paper.specs.Layouts.{field};
 ghost use Rattle.text.specs.Words.{little};
 ghost use Rattle.words.specs.Sets.{bitOn, bitsOn, bitsBy};
 ghost use Rattle.words.specs.Tables.{ruleText};
-ghost use Rattle.paper.specs.Conditions.{summaryFillers, wrongYear, missingMark, notTime, summaryHolds, summaryRules};
+ghost use Rattle.paper.specs.Conditions.{summaryFillers, wrongYear, notTime, summaryHolds, summaryRules};
 
 fn field_of(n: u32, own: &[u8]) -> &[u8]
     ensures { λ p. ⌜ now p ≡ field LSummary n (now (own .entry)) ⌝ }
@@ -38,18 +38,6 @@ fn wrong_year(f: &[u8]) -> bool
     ensures { λ r. ⌜ r ≡ wrongYear (now (f .entry)) ⌝ }
 {
     !text::blank(f) & !text::is_same(text::piece(f, 0, 4), b"2004")
-}
-
-// 0491: some of 0260, 0270, 0280 present, at each that is blank.
-fn missing_mark(n: u32, own: &[u8]) -> bool
-    ensures { λ r. ⌜ r ≡ missingMark n (now (own .entry)) ⌝ }
-{
-    if !text::blank(field_of(n, own)) {
-        return false;
-    }
-    !text::blank(field_of(260, own))
-        | !text::blank(field_of(270, own))
-        | !text::blank(field_of(280, own))
 }
 
 // Present and not HHMM.
@@ -88,8 +76,8 @@ fn and_reserve(n: u32, own: &[u8], later: u64) -> u64
 }
 
 // The rules on 0050 to 0090, before later ones.
-fn of_50_to_90(form: &[u8], own: &[u8], later: u64) -> u64
-    ensures { λ r. ⌜ r ≡ bitsOn (λ (rule : ℕ). summaryHolds (rule / 10000) (rule % 10000) (now (form .entry)) (now (own .entry))) (500014 ∷ 550014 ∷ 600014 ∷ 630014 ∷ 700014 ∷ 750014 ∷ 800014 ∷ 900010 ∷ []) later ⌝ }
+fn of_50_to_90(own: &[u8], later: u64) -> u64
+    ensures { λ r. ⌜ r ≡ bitsOn (λ (rule : ℕ). summaryHolds (rule / 10000) (rule % 10000) [] (now (own .entry))) (500014 ∷ 550014 ∷ 600014 ∷ 630014 ∷ 700014 ∷ 750014 ∷ 800014 ∷ 900010 ∷ []) later ⌝ }
 {
     let set = words::and_rule(!text::digits(field_of(90, own)), later);
     let set = and_reserve(80, own, set);
@@ -102,10 +90,14 @@ fn of_50_to_90(form: &[u8], own: &[u8], later: u64) -> u64
 }
 
 // The rules on 0100 to 0250, all in reserve, before later ones.
-fn of_reserves(form: &[u8], own: &[u8], later: u64) -> u64
-    ensures { λ r. ⌜ r ≡ bitsOn (λ (rule : ℕ). summaryHolds (rule / 10000) (rule % 10000) (now (form .entry)) (now (own .entry))) (1000014 ∷ 1100014 ∷ 1200014 ∷ 1300014 ∷ 1330014 ∷ 1350014 ∷ 1400014 ∷ 1500014 ∷ 1700014 ∷ 1800014 ∷ 1850014 ∷ 1880014 ∷ 1890014 ∷ 1900014 ∷ 1950014 ∷ 2000014 ∷ 2100014 ∷ 2150014 ∷ 2170014 ∷ 2190014 ∷ 2200014 ∷ 2500014 ∷ []) later ⌝ }
+fn of_reserves(own: &[u8], later: u64) -> u64
+    ensures { λ r. ⌜ r ≡ bitsOn (λ (rule : ℕ). summaryHolds (rule / 10000) (rule % 10000) [] (now (own .entry))) (1000014 ∷ 1100014 ∷ 1200014 ∷ 1300014 ∷ 1330014 ∷ 1350014 ∷ 1400014 ∷ 1500014 ∷ 1700014 ∷ 1800014 ∷ 1850014 ∷ 1880014 ∷ 1890014 ∷ 1900014 ∷ 1950014 ∷ 2000014 ∷ 2100014 ∷ 2150014 ∷ 2170014 ∷ 2190014 ∷ 2200014 ∷ 2500014 ∷ []) later ⌝ }
 {
     let set = and_reserve(250, own, later);
+    if text::blank(layout::through(Layout::LSummary, 100, 220, own)) {
+        // None of the other 21: the set moves by 21 places, and what would pass the 64th is lost.
+        return set % 8796093022208 * 2097152;
+    }
     let set = and_reserve(220, own, set);
     let set = and_reserve(219, own, set);
     let set = and_reserve(217, own, set);
@@ -130,17 +122,25 @@ fn of_reserves(form: &[u8], own: &[u8], later: u64) -> u64
 }
 
 // The rules on 0260 to 0290, before later ones.
-fn of_260_to_290(form: &[u8], own: &[u8], later: u64) -> u64
-    ensures { λ r. ⌜ r ≡ bitsOn (λ (rule : ℕ). summaryHolds (rule / 10000) (rule % 10000) (now (form .entry)) (now (own .entry))) (2600010 ∷ 2600490 ∷ 2600491 ∷ 2700010 ∷ 2700491 ∷ 2800010 ∷ 2800491 ∷ 2900014 ∷ []) later ⌝ }
+fn of_260_to_290(own: &[u8], later: u64) -> u64
+    ensures { λ r. ⌜ r ≡ bitsOn (λ (rule : ℕ). summaryHolds (rule / 10000) (rule % 10000) [] (now (own .entry))) (2600010 ∷ 2600490 ∷ 2600491 ∷ 2700010 ∷ 2700491 ∷ 2800010 ∷ 2800491 ∷ 2900014 ∷ []) later ⌝ }
 {
-    let set = words::and_rule(!text::blank(field_of(290, own)), later);
-    let set = words::and_rule(missing_mark(280, own), set);
-    let set = words::and_rule(!words::one_of(b"ECGMPAH ", field_of(280, own)), set);
-    let set = words::and_rule(missing_mark(270, own), set);
-    let set = words::and_rule(not_time(field_of(270, own)), set);
-    let set = words::and_rule(missing_mark(260, own), set);
-    let set = words::and_rule(wrong_year(field_of(260, own)), set);
-    words::and_rule(words::not_date(field_of(260, own)), set)
+    let day = field_of(260, own);
+    let time = field_of(270, own);
+    let zone = field_of(280, own);
+    let no_day = text::blank(day);
+    let no_time = text::blank(time);
+    let no_zone = text::blank(zone);
+    // 0491: some of the three present, at each that is blank.
+    let some = !no_day | !no_time | !no_zone;
+    let set = and_reserve(290, own, later);
+    let set = words::and_rule(no_zone & some, set);
+    let set = words::and_rule(!words::one_of(b"ECGMPAH ", zone), set);
+    let set = words::and_rule(no_time & some, set);
+    let set = words::and_rule(not_time(time), set);
+    let set = words::and_rule(no_day & some, set);
+    let set = words::and_rule(wrong_year(day), set);
+    words::and_rule(words::not_date(day), set)
 }
 
 // The set of the rules that a summary breaks, where both records have their length.
@@ -153,9 +153,9 @@ pub fn broken(form: &[u8], own: &[u8]) -> u64
     if own.len() != 314 {
         return 0;
     }
-    let set = of_260_to_290(form, own, 0);
-    let set = of_reserves(form, own, set);
-    let set = of_50_to_90(form, own, set);
+    let set = of_260_to_290(own, 0);
+    let set = of_reserves(own, set);
+    let set = of_50_to_90(own, set);
     of_head(form, own, set)
 }
 

@@ -11,9 +11,9 @@ use lib.Arith.{digits-div, digits-mod}
 use lib.Dec.{eqb, leb, ltb, lit<}
 use lib.ListN.{length, getD, take, drop, set, length-drop, length-set}
 use lib.Seq.{sets, length-sets, take-all, take-take, take-nil, drop-length}
-use borrow.Author.Tests.{ltb-true, ltb-false, eqb-true, eqb-false, lt-ltb, le-ltb, eq-eqb, ne-eqb, le-leb, lt-leb}
+use borrow.Author.Tests.{ltb-true, ltb-false, eqb-true, eqb-false, lt-ltb, le-ltb, le-leb, lt-leb}
 use Rattle.paper.specs.Bytes.{Bytes, every, same, before, part}
-use Rattle.paper.proofs.Laws.{both, next, same-eq}
+use Rattle.paper.proofs.Laws.{both, next, same-eq, same-self}
 use Rattle.text.specs.Words.{isByte, little, bytesOf, high, wordLaid}
 
 and-assoc : (a b c : Bool) → (a && (b && c)) ≡ ((a && b) && c)
@@ -61,11 +61,7 @@ same-little a b h g l = go (eqb (little a) (little b)) refl
     equal e = sym (bytes-little a h) ∙ (λ i. bytesOf (l i) (e i)) ∙ bytes-little b g
 
     go : (q : Bool) → eqb (little a) (little b) ≡ q → same a b ≡ q
-    go true e = ap (λ (t : Bytes). same t b) (equal (eqb-true (little a) (little b) e)) ∙ same-refl b
-      where
-        same-refl : (t : Bytes) → same t t ≡ true
-        same-refl [] = refl
-        same-refl (x ∷ t) = ap (λ (c : Bool). c && same t t) (eq-eqb x x refl) ∙ same-refl t
+    go true e = ap (λ (t : Bytes). same t b) (equal (eqb-true (little a) (little b) e)) ∙ same-self b
     go false e = not-same (same a b) refl
       where
         not-same : (q : Bool) → same a b ≡ q → q ≡ false
@@ -160,36 +156,6 @@ high-split (suc n) (suc k) j (x ∷ s) e =
     let less : n ≡ k + j = omega arith in
     let top : x * 256 ^ n ≡ x * 256 ^ k * 256 ^ j = ap (λ (m : ℕ). x * m) (power-split n k j less) ∙ sym (mul-assoc x (256 ^ k) (256 ^ j)) in
     omega (arith, top, high-split n k j s less, add-mul (x * 256 ^ k) (high k s) (256 ^ j))
-
-pub pair-eqb : (m x y a b : ℕ) → a < m → b < m → eqb (x * m + a) (y * m + b) ≡ (eqb x y && eqb a b)
-pair-eqb m x y a b ha hb = go (eqb x y) refl (eqb a b) refl
-  where
-    go : (t : Bool) → eqb x y ≡ t → (u : Bool) → eqb a b ≡ u → eqb (x * m + a) (y * m + b) ≡ (t && u)
-    go true e true f = let h : x * m + a ≡ y * m + b = (λ i. eqb-true x y e i * m + eqb-true a b f i) in eq-eqb (x * m + a) (y * m + b) h
-    go true e false f =
-        let g : y * m ≡ x * m = ap (λ (z : ℕ). z * m) (sym (eqb-true x y e)) in
-        let n : a ≡ b → ⊥ = eqb-false a b f in
-        ne-eqb (x * m + a) (y * m + b) (λ (h : x * m + a ≡ y * m + b). n (omega arith))
-    go false e u f =
-        let n : x ≡ y → ⊥ = eqb-false x y e in
-        ne-eqb (x * m + a) (y * m + b) (λ (h : x * m + a ≡ y * m + b). n (same-top h))
-      where
-        same-top : x * m + a ≡ y * m + b → x ≡ y
-        same-top h = top (ltb x y) refl (ltb y x) refl
-          where
-            top : (t : Bool) → ltb x y ≡ t → (u : Bool) → ltb y x ≡ u → x ≡ y
-            top true k u l = absurd (let over = lower m x y a b ha hb (ltb-true x y k) in omega (arith, over, h))
-            top false k true l = absurd (let over = lower m y x b a hb ha (ltb-true y x l) in omega (arith, over, h))
-            top false k false l = let p = ltb-false x y k in let q = ltb-false y x l in omega (arith, p, q)
-
-pub same-high : (k : ℕ) (a b : Bytes) → every isByte a ≡ true → every isByte b ≡ true → length a ≡ length b → length a ≤ k → same a b ≡ eqb (high k a) (high k b)
-same-high k [] [] h g l m = sym (eq-eqb (high k []) (high k []) refl)
-same-high k [] (y ∷ t) h g l m = absurd (omega (arith, l))
-same-high k (x ∷ s) [] h g l m = absurd (omega (arith, l))
-same-high zero (x ∷ s) (y ∷ t) h g l m = absurd (omega (arith, m))
-same-high (suc k) (x ∷ s) (y ∷ t) h g l m =
-    ap (λ (c : Bool). eqb x y && c) (same-high k s t (other-bytes x s h) (other-bytes y t g) (omega (arith, l)) (omega (arith, m)))
-    ∙ sym (pair-eqb (256 ^ k) x y (high k s) (high k t) (high-lt k s (other-bytes x s h)) (high-lt k t (other-bytes y t g)))
 
 -- FOR THE FUNCTIONS
 

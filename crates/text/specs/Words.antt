@@ -40,3 +40,9 @@ wordLaid out at w = cond (leb (at + 8) (length out)) (sets out at (bytesOf 8 w))
 -- tied to the paper by `pair-ltb` of text/Words
 abbrev pub keyNumber : Key → ℕ
 keyNumber k = k .first * 18446744073709551616 + k .last
+
+-- the most that so many bytes write as digits
+-- tied to the paper by `most-again` of text/Laws
+abbrev pub most : ℕ → ℕ
+most zero = 0
+most (suc k) = most k * 10 + 207

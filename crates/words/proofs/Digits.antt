@@ -9,7 +9,7 @@ use lib.Dec.{eqb, leb}
 use lib.ListN.{length, length-append}
 use borrow.Author.Tests.{eq-eqb, eqb-true, le-leb, leb-true}
 use Rattle.paper.specs.Bytes.{Bytes, run, same, digits, isDigit, digitOn, number, written}
-use Rattle.paper.proofs.Laws.{both, same-eq}
+use Rattle.paper.proofs.Laws.{both, same-eq, same-self}
 
 value-append : (s t : Bytes) (a : ℕ) → run digitOn a (s ++ t) ≡ run digitOn (run digitOn a s) t
 value-append [] t a = refl
@@ -80,10 +80,6 @@ written-on (x ∷ s) w a h =
 pub written-number : (s : Bytes) → digits s ≡ true → written (length s) (number s) ≡ s
 unfolding number
 written-number s h = let e : length s ≡ 0 + length s = omega arith in ap (λ (w : ℕ). written w (run digitOn 0 s)) e ∙ written-on s 0 0 h
-
-same-self : (s : Bytes) → same s s ≡ true
-same-self [] = refl
-same-self (x ∷ s) = rw (eq-eqb x x refl) (same-self s)
 
 -- two fields of digits in one width: they are the same exactly if they write the same number
 pub same-number : (s t : Bytes) → length s ≡ length t → digits s ≡ true → digits t ≡ true → same s t ≡ eqb (number s) (number t)

@@ -1,9 +1,7 @@
-// The words of document 01's conditions, over a field: each says whether the field is at fault. The number that digits write, and a rule
-// in a set.
+// The words of document 01's conditions, over a field: each says whether the field is at fault. A rule in a set.
 ghost use mathlib.Core.Path.{_≡_};
-ghost use Prim.Native.Nat.{_-_, _≤_};
-ghost use lib.ListN.{length, take};
-ghost use Rattle.paper.specs.Bytes.{bit, number};
+ghost use Prim.Native.Nat.{_≤_};
+ghost use Rattle.paper.specs.Bytes.{bit};
 ghost use Rattle.paper.specs.Conditions.{notDigits, notX, notDate, notPositive, notPin, oneOf, otherNumber, wrongPage, notDouble0, notYear4, noNumber, unlisted, wrongAnd, late, wrongPayDate};
 ghost use Rattle.words.specs.Sets.{bitOn};
 
@@ -116,7 +114,10 @@ pub fn wrong_and(f: &[u8], spouse: &[u8]) -> bool
 pub fn late(day: &[u8]) -> bool
     ensures { λ r. ⌜ r ≡ late (now (day .entry)) ⌝ }
 {
-    text::is_before(b"20040415", day)
+    if day.len() != 8 {
+        return text::is_before(b"20040415", day);
+    }
+    0x32303034_30343135 < text::rank(day, 0) // 2004 0415
 }
 
 // 0397: no valid date or after 20040415.
@@ -124,34 +125,6 @@ pub fn wrong_pay_date(f: &[u8]) -> bool
     ensures { λ r. ⌜ r ≡ wrongPayDate (now (f .entry)) ⌝ }
 {
     !date::valid_date(f) | late(f)
-}
-
-fn value_of(x: u8) -> u64
-    ensures { λ r. ⌜ (r ≡ x - 48) × (r ≤ 207) ⌝ }
-{
-    if 48 <= x { (x - 48) as u64 } else { 0 }
-}
-
-// The number that up to 16 digits write.
-fn value(s: &[u8]) -> u64
-    requires { ⌜ length (now s) ≤ 16 ⌝ }
-    ensures { λ r. ⌜ (r ≡ number (now (s .entry))) × (r ≤ 229999999999999977) ⌝ }
-{
-    let mut n: u64 = 0;
-    let mut i = 0;
-    while i < s.len() {
-        n = n * 10 + value_of(s[i]);
-        i += 1;
-    }
-    n
-}
-
-// The number that the first 16 digits write.
-pub fn number_of(s: &[u8]) -> u64
-    ensures { λ r. ⌜ r ≡ number (take 16 (now (s .entry))) ⌝ }
-    ensures { λ r. ⌜ r ≤ 229999999999999977 ⌝ }
-{
-    value(text::piece(s, 0, 16))
 }
 
 fn one_if(b: bool) -> u64

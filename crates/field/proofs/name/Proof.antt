@@ -1,10 +1,10 @@
-use Rattle.paper.specs.Fields.{name}
 use borrow.Author.Needs.{needs}
+use denote.Ref.{now}
+use Rattle.field.proofs.Laws.{name-less}
 use Rattle.field.proofs.name.Statement.{statement}
 use Rattle.field.proofs.name.Tie as tie
 
 pub name-spec : {M : Type 1} → statement M
-unfolding name
 name-spec =
     tie.close
     (tie.spec
@@ -13,5 +13,4 @@ name-spec =
     (λ c κs. search needs)
     (λ c κs. search needs)
     (λ c κs. search needs)
-    (λ c κs. search needs)
-    (λ c. cc))
+    (λ c. cc (name-less (now (c .before .before .before .before .before .before .args .s)))))

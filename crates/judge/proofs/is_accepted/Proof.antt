@@ -1,9 +1,5 @@
 use lib.ListN.{take}
-use mathlib.Core.Path.{_∙_, sym, ap}
-use mathlib.Core.Bool.{Bool, _&&_}
-use Prim.Native.Nat.{ℕ}
 use native.Mathlib.Omega.{arith}
-use lib.Seq.{take-all}
 use denote.Ref.{now}
 use Rattle.judge.proofs.Seen.{accepted-no, accepted-low, accepted-yes}
 use borrow.Author.Needs.{needs}

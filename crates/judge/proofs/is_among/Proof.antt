@@ -3,7 +3,7 @@ use mathlib.Core.Bool.{_||_}
 use Prim.Native.Nat.{_-_, _≤_}
 use native.Mathlib.Omega.{arith}
 use lib.Dec.{eqb}
-use lib.ListN.{length, getD, take, drop}
+use lib.ListN.{getD, take, drop}
 use denote.Ref.{now}
 use Rattle.paper.specs.Bytes.{any}
 use Rattle.judge.proofs.Seen.{any-start, any-again, any-done}

@@ -1,12 +1,8 @@
-use mathlib.Core.Path.{_≡_, refl, sym, ap, _∙_}
+use mathlib.Core.Path.{sym, _∙_}
 use mathlib.Core.Bool.{true, false}
 use native.Mathlib.Omega.{arith}
 use borrow.Author.Tests.{not-true, not-false}
 use denote.Ref.{now}
-use lib.ListN.{length}
-use Rattle.paper.specs.declared.Kind.{Kind}
-use Rattle.paper.specs.declared.Kind.the-variants.{Form}
-use Rattle.paper.specs.Walk.{is}
 use Rattle.judge.specs.Judged.{searched}
 use Rattle.judge.proofs.Found.{form-size}
 use Rattle.judge.proofs.Whole.{first-kind, known-as, first-part, other-judged, form-judged}

@@ -1,7 +1,5 @@
-use Rattle.paper.proofs.Laws.{tests}
 use borrow.Author.Tests.{ne-eqb, eq-eqb}
 use native.Mathlib.Omega.{arith}
-use borrow.Author.Needs.{needs}
 use Rattle.judge.proofs.letter_by.Statement.{statement}
 use Rattle.judge.proofs.letter_by.Tie as tie
 

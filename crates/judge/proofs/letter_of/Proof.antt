@@ -1,6 +1,5 @@
 use mathlib.Core.Path.{_∙_, ap, sym}
 use mathlib.Core.Bool.{true}
-use native.Mathlib.Omega.{arith}
 use lib.ListN.{length, take}
 use Rattle.judge.specs.Seen.{numbersIn}
 use denote.Ref.{now}

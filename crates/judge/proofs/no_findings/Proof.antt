@@ -1,6 +1,5 @@
 use mathlib.Core.Path.{refl}
 use Rattle.judge.specs.Kept.{noFindings}
-use borrow.Author.Needs.{needs}
 use Rattle.judge.proofs.no_findings.Statement.{statement}
 use Rattle.judge.proofs.no_findings.Tie as tie
 

@@ -1,6 +1,5 @@
 use mathlib.Core.Path.{_∙_, ap}
 use Prim.Native.Nat.{ℕ, _+_}
-use native.Mathlib.Omega.{arith}
 use lib.Seq.{take-all}
 use denote.Ref.{now}
 use Rattle.paper.specs.Bytes.{number}

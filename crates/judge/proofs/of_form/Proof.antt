@@ -1,5 +1,4 @@
 use denote.Ref.{now}
-use Rattle.judge.specs.Kept.{held}
 use Rattle.judge.proofs.Kept.{none-few}
 use Rattle.judge.proofs.Found.{form-size}
 use Rattle.judge.proofs.Whole.{form-found}

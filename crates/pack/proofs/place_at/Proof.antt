@@ -1,6 +1,4 @@
 use borrow.Author.Needs.{needs}
-use native.Mathlib.Omega.{arith}
-use Rattle.lines.proofs.Rows.{width-some}
 use Rattle.pack.proofs.Laws.{place-told}
 use Rattle.pack.proofs.place_at.Statement.{statement}
 use Rattle.pack.proofs.place_at.Tie as tie
@@ -14,6 +12,4 @@ place-at-spec =
     (λ c. search needs)
     (λ c κs. search needs)
     (λ c. search needs)
-    (λ c κs. search needs)
-    (λ c. omega (arith, width-some (c .before .before .before .before .args .kind)))
     (λ c. search place-told))

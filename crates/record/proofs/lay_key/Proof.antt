@@ -39,7 +39,7 @@ lay-key-spec =
     let k10 = k9 .before .before .before .before in
     let k11 = k10 .before .before .before .before in
     let k12 = k11 .before .before .before .before in
-    k1 .end .kept .0 ∙ k2 .lay-byte3 .kept .0 ∙ k3 .wide-field5 .kept .0 ∙ k4 .lay-field .kept .0 ∙ k5 .lay-two .kept .0 ∙ k6 .wide-field4 .kept .0 ∙ k7 .wide-field3 .kept .0 ∙ k8 .lay-byte2 .kept .0 ∙ k9 .lay-byte .kept .0 ∙ k10 .wide-field2 .kept .0 ∙ k11 .wide-field .kept .0 ∙ k12 .start .kept .0)
+    k1 .end .kept .0 ∙ k2 .lay-byte3 .kept .0 ∙ k3 .lay-field6 .kept .0 ∙ k4 .lay-field5 .kept .0 ∙ k5 .lay-two .kept .0 ∙ k6 .lay-field4 .kept .0 ∙ k7 .lay-field3 .kept .0 ∙ k8 .lay-byte2 .kept .0 ∙ k9 .lay-byte .kept .0 ∙ k10 .lay-field2 .kept .0 ∙ k11 .lay-field .kept .0 ∙ k12 .start .kept .0)
     (λ c.
     let k1 = c .before .before in
     let k2 = k1 .before .before .before .before in
@@ -54,4 +54,4 @@ lay-key-spec =
     let k11 = k10 .before .before .before .before in
     let k12 = k11 .before .before .before .before in
     let k13 = k12 .before .before .before in
-    rw (k1 .end .ensures, k2 .lay-byte3 .ensures, k3 .wide-field5 .ensures, k4 .lay-field .ensures, k5 .lay-two .ensures, k6 .wide-field4 .ensures, k7 .wide-field3 .ensures, k8 .lay-byte2 .ensures, k9 .lay-byte .ensures, k10 .wide-field2 .ensures, k11 .wide-field .ensures, k12 .start .ensures, k13 .verdict-byte .ensures)))
+    rw (k1 .end .ensures, k2 .lay-byte3 .ensures, k3 .lay-field6 .ensures, k4 .lay-field5 .ensures, k5 .lay-two .ensures, k6 .lay-field4 .ensures, k7 .lay-field3 .ensures, k8 .lay-byte2 .ensures, k9 .lay-byte .ensures, k10 .lay-field2 .ensures, k11 .lay-field .ensures, k12 .start .ensures, k13 .verdict-byte .ensures)))

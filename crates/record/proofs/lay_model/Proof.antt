@@ -27,4 +27,4 @@ lay-model-spec =
     let k5 = k4 .before .before .before .before in
     let k6 = k5 .before .before .before .before in
     let k7 = k6 .before .before .before .before in
-    rw (k1 .end .ensures, k2 .short-field4 .ensures, k3 .short-field3 .ensures, k4 .short-field2 .ensures, k5 .short-field .ensures, k6 .wide-field .ensures, k7 .start .ensures)))
+    rw (k1 .end .ensures, k2 .lay-field5 .ensures, k3 .lay-field4 .ensures, k4 .lay-field3 .ensures, k5 .lay-field2 .ensures, k6 .lay-field .ensures, k7 .start .ensures)))

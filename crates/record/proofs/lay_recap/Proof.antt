@@ -30,4 +30,4 @@ lay-recap-spec =
     let k6 = k5 .before in
     let k7 = k6 .before .before .before .before in
     let k8 = k7 .before .before .before .before .before in
-    rw (k1 .end .ensures, k2 .lay-field3 .ensures, k3 .lay-counts .ensures, k4 .wide-field .ensures, k5 .lay-field2 .ensures, k6 .field-of .ensures, k7 .lay-field .ensures, k8 .start .ensures)))
+    rw (k1 .end .ensures, k2 .lay-field4 .ensures, k3 .lay-counts .ensures, k4 .lay-field3 .ensures, k5 .lay-field2 .ensures, k6 .field-of .ensures, k7 .lay-field .ensures, k8 .start .ensures)))

@@ -1,30 +1,26 @@
-use Prim.Native.Nat.{_+_, _-_}
+use Prim.Native.Nat.{_+_, _≤_}
 use native.Mathlib.Omega.{arith}
+use lib.ListN.{length}
 use denote.Ref.{now}
-use Rattle.paper.proofs.RecordSizes.{length-key}
-use Rattle.record.proofs.Laws.{not-placed, lent-placed}
 use borrow.Author.Needs.{needs}
+use Rattle.paper.proofs.RecordSizes.{length-key}
+use Rattle.record.proofs.Laws.{fits-told, not-placed, lent-placed}
 use Rattle.record.proofs.put_key.Statement.{statement}
 use Rattle.record.proofs.put_key.Tie as tie
+
+room : (c : tie.Else1) → let a = c .before .before .before .before .before .before .before .before .args in a .at + 120 ≤ length (now (a .out))
+room c = fits-told 120 _ _ _ (c .before .fits2 .ensures) (c .if1 .left)
 
 pub put-key-spec : {M : Type 1} → statement M
 put-key-spec =
     tie.close
     (tie.spec
-    (λ c.
-    let a = c .before .before .before .before .before .before .before .args in
-    not-placed (now (a .out)) _ (a .at) (omega arith))
-    (λ c. search needs)
-    (λ c.
-    let a = c .before .before .before .before .before .before .before .before .args in
-    not-placed (now (a .out)) _ (a .at) (omega arith))
+    (λ c κs. search needs)
+    (λ c. search not-placed)
+    (λ c. omega (arith, room c))
     (λ c. search needs)
     (λ c. search needs)
-    (λ c. search needs)
-    (λ c. search needs)
+    (λ c. omega (arith, room c))
     (λ c κs. search needs)
     (λ c. search needs)
-    (λ c.
-    let l = c .before .before in
-    let a = l .before .before .before .before .before .before .before .before .before .before .args in
-    lent-placed (now (a .out)) _ (a .at) (a .at + 120 - a .at) (l .lay-key .last .0) (omega arith) (omega arith) (length-key _ _ _ _ _ _ _ _) (l .lay-key .ensures)))
+    (λ c. search (needs, lent-placed, length-key)))

@@ -17,9 +17,11 @@ start-spec =
     (λ c. search needs)
     (λ c κs. search needs)
     (λ c κs. search needs)
+    (λ c κs. search needs)
     (λ c. search needs)
     (λ c.
     let k1 = c .before .before in
-    let k2 = k1 .before .before .before .before in
-    let k3 = k2 .before .before .before .before .before in
-    rw (k1 .lay-field .ensures, k2 .lay2 .ensures, k3 .lay .ensures, all-over (now (k3 .before .before .before .before .before .args .r)) (blanks 120) (search needs))))
+    let k2 = k1 .before in
+    let k3 = k2 .before .before .before .before in
+    let k4 = k3 .before .before .before .before .before in
+    rw (k1 .lay3 .ensures, k2 .start-of .ensures, k3 .lay2 .ensures, k4 .lay .ensures, all-over (now (k4 .before .before .before .before .before .args .r)) (blanks 120) (search needs))))

@@ -1,11 +1,11 @@
 use borrow.Author.Tests.{eq-eqb, ne-eqb}
-use Rattle.paper.specs.Conditions.{summaryRules}
+use Rattle.paper.specs.Conditions.{summaryRules, summaryHolds, pick}
 use borrow.Author.Needs.{needs}
 use Rattle.summary.proofs.broken.Statement.{statement}
 use Rattle.summary.proofs.broken.Tie as tie
 
 pub broken-spec : {M : Type 1} → statement M
-unfolding summaryRules
+unfolding summaryRules summaryHolds pick
 broken-spec =
     tie.close
     (tie.spec
