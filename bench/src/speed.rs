@@ -246,7 +246,7 @@ fn title(text: &str) {
 
 pub fn run() -> bool {
     if std::env::var_os("EMULATED").is_some() {
-        println!("under an emulator: only the ratios mean something, the nanoseconds do not");
+        println!("under an emulator: the nanoseconds mean nothing, and the ratios little");
     }
     let mut out = vec![0; OUTPUT];
     let full = [Content::Sound, Content::ManyFindings, Content::UnknownForms];

@@ -12,12 +12,12 @@ ghost use Rattle.paper.specs.Bytes.{within, empty};
 ghost use Rattle.paper.specs.Fields.{street, city};
 ghost use Rattle.paper.specs.Layouts.{field};
 ghost use Rattle.paper.specs.Pack.{linesIn};
-ghost use Rattle.paper.specs.Conditions.{notAbove, formFillers, foreign, addressed, wrongState, badZip, wrongZip, wrongForeign, noSpouse, formRules};
+ghost use Rattle.paper.specs.Conditions.{factsOf, notAbove, formFillers, foreign, addressed, wrongState, badZip, wrongZip, wrongForeign, noSpouse, formRules};
 ghost use Rattle.text.specs.Words.{little};
 ghost use Rattle.words.specs.Sets.{bitsOn, bitsBy};
 ghost use Rattle.words.specs.Tables.{ruleText};
 ghost use Rattle.words.specs.Past.{earlier};
-ghost use Rattle.form.specs.Breaks.{breaks, noFacts};
+ghost use Rattle.form.specs.Breaks.{breaks};
 
 fn field_of(n: u32, form: &[u8]) -> &[u8]
     ensures { λ p. ⌜ now p ≡ field L4868 n (now (form .entry)) ⌝ }
@@ -135,7 +135,7 @@ fn no_spouse(form: &[u8]) -> bool
     text::blank(field_of(100, form))
 }
 
-// 0060, 0061: digits, and not above the earlier number. It is given and 1, 0 for none; size is the first number of more digits.
+// 0060, 0061: digits, and not above the earlier number. Past is that number and 1, or 0 for none; size is the first number of more digits.
 fn not_above(f: &[u8], past: u64, size: u64) -> bool
     requires { ⌜ (size ≡ 10 ^ length (now f)) × (1 ≤ length (now f)) × (length (now f) ≤ 16) ⌝ }
     ensures { λ r. ⌜ r ≡ notAbove (now (f .entry)) (earlier (length (now (f .entry))) past) ⌝ }
@@ -164,7 +164,7 @@ fn of_head(form: &[u8], date: &[u8], whole: Facts, later: u64) -> u64
 // The rules on 0007 and 0008, the numbers of the declaration, before later ones.
 fn of_numbers(form: &[u8], dsn: u64, dcn: u64, later: u64) -> u64
     requires { ⌜ length (now form) ≡ 384 ⌝ }
-    ensures { λ r. ⌜ r ≡ bitsOn (breaks (now (form .entry)) [] [] [] dsn dcn [] noFacts) (70031 ∷ 70060 ∷ 80032 ∷ 80061 ∷ 80062 ∷ 80064 ∷ []) later ⌝ }
+    ensures { λ r. ⌜ r ≡ bitsOn (breaks (now (form .entry)) [] [] [] dsn dcn [] (factsOf [])) (70031 ∷ 70060 ∷ 80032 ∷ 80061 ∷ 80062 ∷ 80064 ∷ []) later ⌝ }
 {
     let set = words::and_rule(words::not_year_4(field_of(8, form)), later);
     let set = words::and_rule(words::not_double_0(field_of(8, form)), set);
@@ -176,7 +176,7 @@ fn of_numbers(form: &[u8], dsn: u64, dcn: u64, later: u64) -> u64
 
 // The rules on 0010 to 0030, the names, before later ones.
 fn of_names(form: &[u8], payer: &[u8], spouse: &[u8], later: u64) -> u64
-    ensures { λ r. ⌜ r ≡ bitsOn (breaks (now (form .entry)) (now (payer .entry)) (now (spouse .entry)) [] 0 0 [] noFacts) (100315 ∷ 200316 ∷ 300020 ∷ 300312 ∷ []) later ⌝ }
+    ensures { λ r. ⌜ r ≡ bitsOn (breaks (now (form .entry)) (now (payer .entry)) (now (spouse .entry)) [] 0 0 [] (factsOf [])) (100315 ∷ 200316 ∷ 300020 ∷ 300312 ∷ []) later ⌝ }
 {
     let set = words::and_rule(
         words::wrong_and(field_of(30, form), field_of(100, form)),
@@ -195,7 +195,7 @@ fn of_names(form: &[u8], payer: &[u8], spouse: &[u8], later: u64) -> u64
 
 // The rules on 0032 to 0080, the address, before later ones.
 fn of_address(form: &[u8], zips: &[u8], later: u64) -> u64
-    ensures { λ r. ⌜ r ≡ bitsOn (breaks (now (form .entry)) [] [] (now (zips .entry)) 0 0 [] noFacts) (320007 ∷ 340007 ∷ 360023 ∷ 400007 ∷ 500023 ∷ 600022 ∷ 700016 ∷ 800010 ∷ 800306 ∷ []) later ⌝ }
+    ensures { λ r. ⌜ r ≡ bitsOn (breaks (now (form .entry)) [] [] (now (zips .entry)) 0 0 [] (factsOf [])) (320007 ∷ 340007 ∷ 360023 ∷ 400007 ∷ 500023 ∷ 600022 ∷ 700016 ∷ 800010 ∷ 800306 ∷ []) later ⌝ }
 {
     let set = words::and_rule(wrong_foreign(form), later);
     let set = words::and_rule(!words::one_of(b"123 ", field_of(80, form)), set);
@@ -219,7 +219,7 @@ fn of_address(form: &[u8], zips: &[u8], later: u64) -> u64
 
 // The rules on 0090 to 0114, the taxpayer and the spouse, before later ones.
 fn of_payers(form: &[u8], later: u64) -> u64
-    ensures { λ r. ⌜ r ≡ bitsOn (breaks (now (form .entry)) [] [] [] 0 0 [] noFacts) (900010 ∷ 1000010 ∷ 1000071 ∷ 1000314 ∷ 1120010 ∷ 1140010 ∷ []) later ⌝ }
+    ensures { λ r. ⌜ r ≡ bitsOn (breaks (now (form .entry)) [] [] [] 0 0 [] (factsOf [])) (900010 ∷ 1000010 ∷ 1000071 ∷ 1000314 ∷ 1120010 ∷ 1140010 ∷ []) later ⌝ }
 {
     let set = words::and_rule(words::not_x(field_of(114, form)), later);
     let set = words::and_rule(words::not_x(field_of(112, form)), set);
@@ -231,7 +231,7 @@ fn of_payers(form: &[u8], later: u64) -> u64
 
 // The rules on 0120 to 0210, the money, before later ones.
 fn of_money(form: &[u8], later: u64) -> u64
-    ensures { λ r. ⌜ r ≡ bitsOn (breaks (now (form .entry)) [] [] [] 0 0 [] noFacts) (1200010 ∷ 1300010 ∷ 1400010 ∷ 1700010 ∷ 1800010 ∷ 2000010 ∷ 2100010 ∷ []) later ⌝ }
+    ensures { λ r. ⌜ r ≡ bitsOn (breaks (now (form .entry)) [] [] [] 0 0 [] (factsOf [])) (1200010 ∷ 1300010 ∷ 1400010 ∷ 1700010 ∷ 1800010 ∷ 2000010 ∷ 2100010 ∷ []) later ⌝ }
 {
     let set = words::and_rule(words::not_digits(field_of(210, form)), later);
     let set = words::and_rule(words::not_digits(field_of(200, form)), set);

@@ -133,7 +133,7 @@ fn is_a(letter: Letter) -> bool
     }
 }
 
-// The nearest number that is digits, after this field.
+// The nearest number that is digits, and 1, after this field.
 fn number_after(f: &[u8], n: u64) -> u64
     requires { ⌜ length (now f) ≤ 16 ⌝ }
     ensures { λ r. ⌜ r ≡ numberAfter (now (f .entry)) n ⌝ }

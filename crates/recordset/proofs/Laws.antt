@@ -1,7 +1,7 @@
 -- A record set is its Key and its Error records, and its length; what is left of bytes from a place on. Assumes nothing.
 use mathlib.Core.Path.{_≡_, refl, sym, ap, _∙_}
 use Prim.Native.Nat.{ℕ, _+_, _-_, _*_, _≤_}
-use mathlib.Core.Bool.{Bool}
+use mathlib.Core.Bool.{Bool, true, false, cond, _&&_}
 use mathlib.Core.List.{List, [], _∷_, _++_}
 use lib.ListN.{length, take, drop, length-append, length-drop}
 use lib.Seq.{take-all}
@@ -16,6 +16,13 @@ use Rattle.paper.specs.Layouts.{field}
 use Rattle.paper.specs.File.{orZeros, errorOf, errorsFrom, setBy}
 use Rattle.paper.proofs.RecordSizes.{length-key, length-error}
 use Rattle.recordset.specs.Key.{keyOf}
+
+-- one text if both hold
+pub if-both : (a b : Bool) (x y q r : Bytes) → q ≡ cond a x y → r ≡ cond b q y → r ≡ cond (a && b) x y
+if-both true true x y q r e f = f ∙ e
+if-both true false x y q r e f = f
+if-both false true x y q r e f = f ∙ e
+if-both false false x y q r e f = f
 
 pub set-parts : (main : Bytes) (known : Bool) (date : Bytes) (l : Letter) (f : Facts) (found : List Finding) (athFound : Bool)
     → setBy main known date l f found athFound

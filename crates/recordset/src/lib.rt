@@ -17,16 +17,6 @@ ghost use Rattle.paper.specs.File.{pinByte};
 ghost use Rattle.record.specs.Parts.{placed};
 ghost use Rattle.recordset.specs.Key.{keyOf};
 
-fn is_a(letter: Letter) -> bool
-    ensures { λ r. ⌜ r ≡ isA letter ⌝ }
-{
-    match letter {
-        Letter::A => true,
-        Letter::R => false,
-        Letter::D => false,
-    }
-}
-
 // The one text or the other.
 fn pick<'a>(first: bool, a: &'a [u8], b: &'a [u8]) -> &'a [u8]
     ensures { λ r. ⌜ now r ≡ cond first (now (a .entry)) (now (b .entry)) ⌝ }
@@ -68,14 +58,18 @@ pub fn shown<'a>(known: bool, main: &'a [u8], number: u32, zeros: &'a [u8]) -> &
 fn if_accepted<'a>(letter: Letter, text: &'a [u8], other: &'a [u8]) -> &'a [u8]
     ensures { λ r. ⌜ now r ≡ cond (isA letter) (now (text .entry)) (now (other .entry)) ⌝ }
 {
-    pick(is_a(letter), text, other)
+    match letter {
+        Letter::A => text,
+        Letter::R => other,
+        Letter::D => other,
+    }
 }
 
 // The text for a document that is accepted with a payment, else the other.
 fn if_paid<'a>(letter: Letter, facts: Facts, text: &'a [u8], other: &'a [u8]) -> &'a [u8]
     ensures { λ r. ⌜ now r ≡ cond (isA letter && ltb 0 (facts .pays)) (now (text .entry)) (now (other .entry)) ⌝ }
 {
-    pick(is_a(letter) & (0 < facts.pays), text, other)
+    pick(0 < facts.pays, if_accepted(letter, text, other), other)
 }
 
 // The ACK Key of a document, at the front of out.
@@ -104,7 +98,7 @@ pub fn put_set_key(
     record::put_key(out, 0, ssn, sequence, marks, day, control, literal)
 }
 
-// What an Error record shows of a record, which starts at the place: it is read in the bytes from there on.
+// The bytes from a place on. What an Error record shows of a record is read in those from its start on.
 pub fn from(t: &[u8], place: usize) -> &[u8]
     ensures { λ r. ⌜ now r ≡ drop place (now (t .entry)) ⌝ }
 {

@@ -37,7 +37,7 @@ abbrev pub wordLaid : Bytes → ℕ → ℕ → Bytes
 wordLaid out at w = cond (leb (at + 8) (length out)) (sets out at (bytesOf 8 w)) out
 
 -- the number whose two halves a key is
--- tied to the paper by `pair-ltb` of text/Words
+-- tied to the paper by `before-high` and `pair-ltb` of text/Words
 abbrev pub keyNumber : Key → ℕ
 keyNumber k = k .first * 18446744073709551616 + k .last
 

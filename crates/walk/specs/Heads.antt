@@ -19,7 +19,7 @@ left s = drop (countOf s) s
 abbrev pub sized : Bytes → Head
 sized r = record { size = length r; kind = kindOf r }
 
--- tied to the paper by `stepped` of walk/Loops
+-- tied to the paper by `doc-here` of walk/Docs
 unfoldable pub headOf : Bytes → Head
 headOf s = sized (front s)
 
