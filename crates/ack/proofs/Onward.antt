@@ -22,6 +22,7 @@ use Rattle.paper.proofs.Laws.{never, part-take}
 use Rattle.paper.proofs.KindLaws.{kind-length}
 use Rattle.layout.proofs.Laws.{entry-low}
 use Rattle.recordset.proofs.Laws.{length-setBy}
+use Rattle.words.specs.Past.{numberIf, identityOf, noIdentity}
 use Rattle.walk.specs.declared.Extent.{Extent}
 use Rattle.walk.specs.Parts.{docHere, extentOf, Passed}
 use Rattle.walk.proofs.Docs.{passed}
@@ -51,6 +52,10 @@ set-main : (main main' : Bytes) (b : Bool) (date : Bytes) (l : Letter) (f : Fact
 unfolding setBy orZeros
 set-main main main' true date l f found ath e = rw (e refl 90, e refl 7, e refl 8)
 set-main main main' false date l f found ath e = refl
+
+identity-main : (main main' : Bytes) → ((k : ℕ) → field L4868 k main ≡ field L4868 k main') → identityOf main ≡ identityOf main'
+unfolding identityOf
+identity-main main main' e = λ i. record { ssn = numberIf (e 90 i); dsn = numberIf (e 7 i); dcn = numberIf (e 8 i) }
 
 -- an opening record is no payment
 unpaid : (k : Kind) → opens k ≡ true → is Payment k ≡ false
@@ -155,12 +160,24 @@ module _ (L : Lines) (date t : Bytes) (at : ℕ) (p : Past) (row : List ℕ) (g 
   form-size : known d ≡ true → length (d .main) ≡ 384
   form-size h = kind-length Form 384 (d .main) refl h
 
+  own : j .identity ≡ cond (known d) (identityOf (d .main)) noIdentity
+  unfolding judgmentOf
+  own = ap (λ (x : Judgment). x .identity) ej
+
   same-fields : j .known ≡ true → (k : ℕ) → field L4868 k (take (at + size - at) s) ≡ field L4868 k (d .main)
   unfolding extentOf
   same-fields h k =
       let n : length (d .main) ≡ 384 = form-size (sym known-is ∙ h) in
       let long : 384 ≤ at + size - at = omega (arith, sized) in
       field-take (at + size - at) k s long ∙ sym (field-take 384 k s (omega arith)) ∙ ap (λ (m : ℕ). field L4868 k (take m s)) (sym n) ∙ ap (field L4868 k) (main-here t at (moved .opened))
+
+  -- the numbers are those of the bytes that it starts
+  own-here : j .identity ≡ cond (j .known) (identityOf (take (at + size - at) s)) noIdentity
+  own-here = own ∙ ap (λ (b : Bool). cond b (identityOf (d .main)) noIdentity) (sym known-is) ∙ by (j .known) same-fields
+    where
+      by : (b : Bool) → (b ≡ true → (k : ℕ) → field L4868 k (take (at + size - at) s) ≡ field L4868 k (d .main)) → cond b (identityOf (d .main)) noIdentity ≡ cond b (identityOf (take (at + size - at) s)) noIdentity
+      by true e = sym (identity-main (take (at + size - at) s) (d .main) (e refl))
+      by false e = refl
 
   full : Full t (brokeIn at T)
   unfolding brokeIn
@@ -173,7 +190,7 @@ module _ (L : Lines) (date t : Bytes) (at : ℕ) (p : Past) (row : List ℕ) (g 
       let found : take (min 96 (j .found .kept)) (foundFrom t (firsts (min 96 (j .found .rows)) x)) ≡ take 96 (findings T) =
       rows-back t (brokeIn at T) (findings T) list x (j .found) w e counts full found-is count-is in
       let few : length (take 96 (findings T)) ≡ min 96 (j .found .kept) = omega (arith, kept-is, length-take 96 (findings T)) in
-      set-said (take (at + size - at) s) t date j x (take 96 (findings T)) found few
+      set-said (take (at + size - at) s) t date j x (take 96 (findings T)) own-here found few
       ∙ set-main (take (at + size - at) s) (d .main) (j .known) date (j .letter) (j .facts) (take 96 (findings T)) (j .found .ath) same-fields
       ∙ (λ i. setBy (d .main) (known-is i) date (said i) (facts-are i) (take 96 (findings T)) (ath-is i))
 
@@ -195,15 +212,15 @@ module _ (L : Lines) (date t : Bytes) (at : ℕ) (p : Past) (row : List ℕ) (g 
   left = by (known d) refl
     where
       by : (b : Bool) → known d ≡ b
-          → seenBy (cond b (nextPast (d .main) (letterOf T) p row) p) (cond b (nextRow (d .main) (letterOf T) p row) row) ≡ cond b (afterKnown (seen d) (isA (letterOf T)) (seenBy p row)) (seenBy p row)
+          → seenBy (cond b (nextPast (identityOf (d .main)) (letterOf T) p row) p) (cond b (nextRow (identityOf (d .main)) (letterOf T) p row) row) ≡ cond b (afterKnown (seen d) (isA (letterOf T)) (seenBy p row)) (seenBy p row)
       by true e = let w = form-wide (d .main) (form-size e) in leaves (d .main) (letterOf T) p row room (w .0) (w .1) (w .2) digits-90
       by false e = refl
 
   few : (pastAfter T p row .n ≤ p .n + cond (isA (letterOf T)) 1 0) × (length (rowAfter T p row) ≡ length row)
   few = by (known d)
     where
-      by : (b : Bool) → (cond b (nextPast (d .main) (letterOf T) p row) p .n ≤ p .n + cond (isA (letterOf T)) 1 0) × (length (cond b (nextRow (d .main) (letterOf T) p row) row) ≡ length row)
-      by true = next-few (d .main) (letterOf T) p row
+      by : (b : Bool) → (cond b (nextPast (identityOf (d .main)) (letterOf T) p row) p .n ≤ p .n + cond (isA (letterOf T)) 1 0) × (length (cond b (nextRow (identityOf (d .main)) (letterOf T) p row) row) ≡ length row)
+      by true = next-few (identityOf (d .main)) (letterOf T) p row
       by false = (omega arith, refl)
 
   -- next is the row as the call left it

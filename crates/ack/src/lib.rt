@@ -13,7 +13,7 @@ ghost use mathlib.Core.List.{_++_};
 ghost use Prim.Native.Nat.{_+_, _-_, _*_, _/_, _≤_, min};
 ghost use lib.Dec.{leb};
 ghost use lib.ListN.{length};
-ghost use Rattle.paper.specs.Bytes.{bytes, bit, every, within, laid};
+ghost use Rattle.paper.specs.Bytes.{bytes, bit, laid};
 ghost use Rattle.paper.specs.Judge.{isA};
 ghost use Rattle.paper.specs.Answer.{fileName, prescribed, answer, refusalNumber, numberOf, lengthOf, coded, leftBy};
 ghost use Rattle.pack.specs.Shape.{shapeOf};
@@ -350,29 +350,11 @@ fn by_pack(
 
 // THE ENTRY POINTS
 
-fn is_printable(x: u8) -> bool
-    ensures { λ r. ⌜ r ≡ within 32 126 x ⌝ }
-{
-    (32 <= x) & (x <= 126)
-}
-
-fn all_printable(s: &[u8]) -> bool
-    ensures { λ r. ⌜ r ≡ every (within 32 126) (now (s .entry)) ⌝ }
-{
-    let mut i = 0;
-    while i < s.len() {
-        if !is_printable(s[i]) {
-            return false;
-        }
-        i += 1;
-    }
-    true
-}
-
 fn is_file_name(s: &[u8]) -> bool
     ensures { λ r. ⌜ r ≡ fileName (now (s .entry)) ⌝ }
 {
-    (s.len() == 20) & all_printable(s)
+    let kinds = kinds::table();
+    (s.len() == 20) & kinds::all_of(&kinds, kinds::PRINTABLE, s)
 }
 
 // The acknowledgment file of a transmission t, written at the front of out, or a refusal, which changes no byte of out.

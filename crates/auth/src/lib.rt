@@ -1,4 +1,7 @@
 // The rules of an authentication: which of them a record breaks.
+use kinds::DIGIT;
+use kinds::all_of;
+use kinds::present_but_not;
 use paper::Facts;
 use paper::Layout;
 ghost use mathlib.Core.Path.{_≡_};
@@ -10,6 +13,7 @@ ghost use lib.ListN.{length, getD};
 ghost use Rattle.paper.specs.declared.Layout.the-variants.{L4868, LAuth};
 ghost use Rattle.paper.specs.Layouts.{field};
 ghost use Rattle.paper.specs.Conditions.{wrongAuth, typed, authHolds, authRules};
+ghost use Rattle.kinds.specs.Kinds.{table};
 ghost use Rattle.text.specs.Words.{little};
 ghost use Rattle.words.specs.Sets.{bitOn, bitsOn, bitsBy};
 ghost use Rattle.words.specs.Tables.{ruleText};
@@ -77,12 +81,21 @@ fn asked_of(form: &[u8], own: &[u8], whole: Facts) -> Asked
 }
 
 // The rules on the head, before later ones.
-fn of_head(form: &[u8], own: &[u8], whole: Facts, before: usize, later: u64) -> u64
+fn of_head(
+    kinds: &[u8; 256],
+    form: &[u8],
+    own: &[u8],
+    whole: Facts,
+    before: usize,
+    later: u64,
+) -> u64
+    requires { ⌜ now kinds ≡ table ⌝ }
     ensures { λ r. ⌜ r ≡ bitsOn (λ (rule : ℕ). authHolds (rule / 10000) (rule % 10000) (now (form .entry)) (now (own .entry)) [] [] whole before) (30 ∷ 44 ∷ 45 ∷ 30004 ∷ 80010 ∷ []) later ⌝ }
 {
     let set = words::and_rule(!words::one_of(b"PSO", field_of(8, own)), later);
+    let number = field_of(3, own);
     let set = words::and_rule(
-        words::other_number(field_of(3, own), of_form(90, form)),
+        words::other_number(all_of(kinds, DIGIT, number), number, of_form(90, form)),
         set,
     );
     let set = words::and_rule(wrong_auth(own, before), set);
@@ -91,7 +104,8 @@ fn of_head(form: &[u8], own: &[u8], whole: Facts, before: usize, later: u64) -> 
 }
 
 // The rules on the taxpayer's fields, 0010 to 0035, before later ones.
-fn of_payer(own: &[u8], line: &[u8], asked: Asked, later: u64) -> u64
+fn of_payer(kinds: &[u8; 256], own: &[u8], line: &[u8], asked: Asked, later: u64) -> u64
+    requires { ⌜ now kinds ≡ table ⌝ }
     ensures { λ r. ⌜ r ≡ bitsOn (λ (rule : ℕ). fieldHolds asked (now (own .entry)) (now (line .entry)) (rule / 10000) (rule % 10000)) (100010 ∷ 100670 ∷ 100681 ∷ 200010 ∷ 200670 ∷ 200679 ∷ 200681 ∷ 350010 ∷ 350670 ∷ 350681 ∷ 350697 ∷ []) later ⌝ }
 {
     let pin = field_of(35, own);
@@ -99,7 +113,7 @@ fn of_payer(own: &[u8], line: &[u8], asked: Asked, later: u64) -> u64
     let set = words::and_rule(asked.p & is_blank, later);
     let set = words::and_rule(asked.o & is_blank, set);
     let set = words::and_rule(asked.s & is_blank, set);
-    let set = words::and_rule(words::not_pin(pin), set);
+    let set = words::and_rule(words::not_pin(present_but_not(kinds, DIGIT, pin), pin), set);
     let income = field_of(20, own);
     let is_blank = text::blank(income);
     let set = words::and_rule(asked.o & is_blank, set);
@@ -108,23 +122,27 @@ fn of_payer(own: &[u8], line: &[u8], asked: Asked, later: u64) -> u64
         set,
     );
     let set = words::and_rule(asked.s & is_blank, set);
-    let set = words::and_rule(words::not_digits(income), set);
+    let set = words::and_rule(present_but_not(kinds, DIGIT, income), set);
     let birth = field_of(10, own);
     let is_blank = text::blank(birth);
     let set = words::and_rule(asked.o & is_blank, set);
     let set = words::and_rule(asked.s & is_blank, set);
-    words::and_rule(words::not_date(birth), set)
+    words::and_rule(
+        words::not_date(present_but_not(kinds, DIGIT, birth), birth),
+        set,
+    )
 }
 
 // The rules on the spouse's fields, 0040 to 0065, before later ones.
-fn of_spouse(own: &[u8], line: &[u8], asked: Asked, later: u64) -> u64
+fn of_spouse(kinds: &[u8; 256], own: &[u8], line: &[u8], asked: Asked, later: u64) -> u64
+    requires { ⌜ now kinds ≡ table ⌝ }
     ensures { λ r. ⌜ r ≡ bitsOn (λ (rule : ℕ). fieldHolds asked (now (own .entry)) (now (line .entry)) (rule / 10000) (rule % 10000)) (400010 ∷ 400671 ∷ 400682 ∷ 500010 ∷ 500671 ∷ 500680 ∷ 500682 ∷ 650010 ∷ 650671 ∷ 650682 ∷ []) later ⌝ }
 {
     let pin = field_of(65, own);
     let is_blank = text::blank(pin);
     let set = words::and_rule(asked.spouse_o & is_blank, later);
     let set = words::and_rule(asked.spouse_s & is_blank, set);
-    let set = words::and_rule(words::not_pin(pin), set);
+    let set = words::and_rule(words::not_pin(present_but_not(kinds, DIGIT, pin), pin), set);
     let income = field_of(50, own);
     let is_blank = text::blank(income);
     let set = words::and_rule(asked.spouse_o & is_blank, set);
@@ -133,12 +151,15 @@ fn of_spouse(own: &[u8], line: &[u8], asked: Asked, later: u64) -> u64
         set,
     );
     let set = words::and_rule(asked.spouse_s & is_blank, set);
-    let set = words::and_rule(words::not_digits(income), set);
+    let set = words::and_rule(present_but_not(kinds, DIGIT, income), set);
     let birth = field_of(40, own);
     let is_blank = text::blank(birth);
     let set = words::and_rule(asked.spouse_o & is_blank, set);
     let set = words::and_rule(asked.spouse_s & is_blank, set);
-    words::and_rule(words::not_date(birth), set)
+    words::and_rule(
+        words::not_date(present_but_not(kinds, DIGIT, birth), birth),
+        set,
+    )
 }
 
 // 0670, 0671, 0681 and 0682 of a field of both, before later ones.
@@ -152,7 +173,8 @@ fn and_missing(is_blank: bool, asked: Asked, later: u64) -> u64
 }
 
 // The rules on the fields of both, 0070 to 0080, before later ones.
-fn of_both(own: &[u8], asked: Asked, later: u64) -> u64
+fn of_both(kinds: &[u8; 256], own: &[u8], asked: Asked, later: u64) -> u64
+    requires { ⌜ now kinds ≡ table ⌝ }
     ensures { λ r. ⌜ r ≡ bitsOn (λ (rule : ℕ). fieldHolds asked (now (own .entry)) [] (rule / 10000) (rule % 10000)) (700010 ∷ 700670 ∷ 700671 ∷ 700681 ∷ 700682 ∷ 700697 ∷ 750326 ∷ 750670 ∷ 750671 ∷ 750681 ∷ 750682 ∷ 750697 ∷ 800010 ∷ 800670 ∷ 800671 ∷ 800681 ∷ 800682 ∷ []) later ⌝ }
 {
     let code = field_of(80, own);
@@ -170,7 +192,10 @@ fn of_both(own: &[u8], asked: Asked, later: u64) -> u64
     let is_blank = text::blank(signed);
     let set = words::and_rule(asked.p & is_blank, set);
     let set = and_missing(is_blank, asked, set);
-    words::and_rule(words::not_date(signed), set)
+    words::and_rule(
+        words::not_date(present_but_not(kinds, DIGIT, signed), signed),
+        set,
+    )
 }
 
 // The set of the rules that an authentication breaks, after so many of the document, where both records have their length; payer and spouse
@@ -191,11 +216,12 @@ pub fn broken(
     if own.len() != 340 {
         return 0;
     }
+    let kinds = kinds::table();
     let asked = asked_of(form, own, whole);
-    let set = of_both(own, asked, 0);
-    let set = of_spouse(own, spouse, asked, set);
-    let set = of_payer(own, payer, asked, set);
-    of_head(form, own, whole, before, set)
+    let set = of_both(&kinds, own, asked, 0);
+    let set = of_spouse(&kinds, own, spouse, asked, set);
+    let set = of_payer(&kinds, own, payer, asked, set);
+    of_head(&kinds, form, own, whole, before, set)
 }
 
 // The text of the rule at a place of the table, its field and its code: eight bytes, the first one lowest.

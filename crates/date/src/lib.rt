@@ -1,7 +1,10 @@
 // Dates of the Gregorian calendar, as YYYYMMDD.
 ghost use mathlib.Core.Path.{_≡_};
-ghost use Prim.Native.Nat.{_≤_};
+ghost use Prim.Native.Nat.{_+_, _≤_};
+ghost use lib.ListN.{length};
+ghost use Rattle.paper.specs.Bytes.{part, number};
 ghost use Rattle.paper.specs.Fields.{leapYear, lastDay, dayOfYear, validDate};
+ghost use Rattle.date.specs.Day.{isDay};
 
 fn leap_year(y: u32) -> bool
     ensures { λ r. ⌜ r ≡ leapYear y ⌝ }
@@ -38,18 +41,26 @@ fn day_of_year(y: u32, m: u32, d: u32) -> bool
     (1 <= d) & (d <= last_day(y, m))
 }
 
-pub fn valid_date(s: &[u8]) -> bool
-    ensures { λ r. ⌜ r ≡ validDate (now (s .entry)) ⌝ }
+// The number that two digits write.
+fn two(s: &[u8], at: usize) -> u32
+    requires { ⌜ at + 2 ≤ length (now s) ⌝ }
+    ensures { λ r. ⌜ (r ≡ number (part at 2 (now (s .entry)))) × (r ≤ 2277) ⌝ }
+{
+    text::digit(s[at]) * 10 + text::digit(s[at + 1])
+}
+
+// Eight bytes which, if they are digits, are a day.
+pub fn is_day(s: &[u8]) -> bool
+    ensures { λ r. ⌜ r ≡ isDay (now (s .entry)) ⌝ }
 {
     if s.len() != 8 {
         return false;
     }
-    if !text::digits(s) {
-        return false;
-    }
-    day_of_year(
-        text::number(s, 0, 4),
-        text::number(s, 4, 2),
-        text::number(s, 6, 2),
-    )
+    day_of_year(two(s, 0) * 100 + two(s, 2), two(s, 4), two(s, 6))
+}
+
+pub fn valid_date(s: &[u8]) -> bool
+    ensures { λ r. ⌜ r ≡ validDate (now (s .entry)) ⌝ }
+{
+    kinds::digits(s) & is_day(s)
 }

@@ -1,24 +1,45 @@
 // What a field may hold: names, streets, cities, accounts, zips and times.
+use kinds::ACCOUNT;
+use kinds::ALNUM;
+use kinds::CITY;
+use kinds::DIGIT;
+use kinds::LETTER;
+use kinds::NAME;
+use kinds::STREET;
+use kinds::all_of;
+use kinds::count_of;
+use kinds::first_not_of;
+use kinds::is_in;
+use kinds::some_of;
 ghost use mathlib.Core.Path.{_≡_};
-ghost use mathlib.Core.Bool.{_||_};
-ghost use Prim.Native.Nat.{_≤_};
+ghost use mathlib.Core.Bool.{_&&_, _||_};
 ghost use lib.Dec.{eqb, leb};
-ghost use Rattle.paper.specs.Bytes.{bit, every, any, count, isLetter, isSpace};
-ghost use Rattle.paper.specs.Fields.{trim, beside, spaced, isLess, nameByte, name, isAlnum, streetByte, street, cityByte, city, accountByte, account, routing, digitsThen, zip, zipEnds00, zerosThenBlanks, hhmm};
+ghost use lib.ListN.{take};
+ghost use Rattle.paper.specs.Bytes.{part, within, isSpace, number};
+ghost use Rattle.paper.specs.Fields.{beside, spaced, isLess, name, street, city, account, digitsThen, zip, zipEnds00, zerosThenBlanks};
+ghost use Rattle.kinds.specs.Kinds.{table};
+ghost use Rattle.field.specs.Gap.{gap};
 
-// Without the spaces at its end.
-fn trimmed(s: &[u8]) -> &[u8]
-    ensures { λ r. ⌜ now r ≡ trim (now (s .entry)) ⌝ }
+// Two spaces stand right before another byte.
+fn has_gap(s: &[u8]) -> bool
+    ensures { λ r. ⌜ r ≡ gap (now (s .entry)) ⌝ }
 {
-    let mut n = s.len();
-    while 0 < n {
-        let last = n - 1;
-        if s[last] != b' ' {
-            return &s[0..n];
-        }
-        n = last;
+    let mut found = false;
+    let mut i = 2;
+    while i < s.len() {
+        found = found | (s[i - 2] == b' ') & (s[i - 1] == b' ') & (s[i] != b' ');
+        i += 1;
     }
-    &s[0..0]
+    found
+}
+
+fn spaced(s: &[u8]) -> bool
+    ensures { λ r. ⌜ r ≡ spaced (now (s .entry)) ⌝ }
+{
+    if s.len() == 0 {
+        return false;
+    }
+    (s[0] != b' ') & !has_gap(s)
 }
 
 // A byte a stands right before a byte b.
@@ -34,16 +55,6 @@ fn beside(s: &[u8], a: u8, b: u8) -> bool
     found
 }
 
-fn spaced(s: &[u8]) -> bool
-    ensures { λ r. ⌜ r ≡ spaced (now (s .entry)) ⌝ }
-{
-    let t = trimmed(s);
-    if t.len() == 0 {
-        return false;
-    }
-    !text::is_space(t[0]) & !beside(t, b' ', b' ')
-}
-
 // A "<" stands beside a space.
 fn loose_less(s: &[u8]) -> bool
     ensures { λ r. ⌜ r ≡ (beside isLess isSpace (now (s .entry)) || beside isSpace isLess (now (s .entry))) ⌝ }
@@ -54,158 +65,69 @@ fn loose_less(s: &[u8]) -> bool
     beside(s, b'<', b' ') | beside(s, b' ', b'<')
 }
 
-fn name_byte(x: u8) -> bool
-    ensures { λ r. ⌜ r ≡ nameByte x ⌝ }
-{
-    text::is_letter(x) | (x == b' ') | (x == b'&') | (x == b'-') | (x == b'<')
-}
-
-fn name_bytes(s: &[u8]) -> bool
-    ensures { λ r. ⌜ r ≡ every nameByte (now (s .entry)) ⌝ }
-{
-    let mut all = true;
-    let mut i = 0;
-    while i < s.len() {
-        all = all & name_byte(s[i]);
-        i += 1;
-    }
-    all
-}
-
 pub fn name(s: &[u8]) -> bool
     ensures { λ r. ⌜ r ≡ name (now (s .entry)) ⌝ }
 {
-    spaced(s) & text::is_letter(text::byte(s, 0)) & name_bytes(s) & !loose_less(s)
-}
-
-fn is_alnum(x: u8) -> bool
-    ensures { λ r. ⌜ r ≡ isAlnum x ⌝ }
-{
-    text::is_letter(x) | text::is_digit(x)
-}
-
-fn street_byte(x: u8) -> bool
-    ensures { λ r. ⌜ r ≡ streetByte x ⌝ }
-{
-    is_alnum(x) | (x == b' ') | (x == b'-') | (x == b'/')
-}
-
-fn street_bytes(s: &[u8]) -> bool
-    ensures { λ r. ⌜ r ≡ every streetByte (now (s .entry)) ⌝ }
-{
-    let mut all = true;
-    let mut i = 0;
-    while i < s.len() {
-        all = all & street_byte(s[i]);
-        i += 1;
+    if !spaced(s) {
+        return false;
     }
-    all
+    let kinds = kinds::table();
+    is_in(&kinds, LETTER, text::byte(s, 0)) & all_of(&kinds, NAME, s) & !loose_less(s)
 }
 
 pub fn street(s: &[u8]) -> bool
     ensures { λ r. ⌜ r ≡ street (now (s .entry)) ⌝ }
 {
-    spaced(s) & is_alnum(text::byte(s, 0)) & street_bytes(s)
-}
-
-fn one_if(b: bool) -> usize
-    ensures { λ r. ⌜ (r ≡ bit b) × (r ≤ 1) ⌝ }
-{
-    if b { 1 } else { 0 }
-}
-
-fn three_letters(s: &[u8]) -> bool
-    ensures { λ r. ⌜ r ≡ leb 3 (count isLetter (now (s .entry))) ⌝ }
-{
-    let mut n = 0;
-    let mut i = 0;
-    while i < s.len() {
-        n += one_if(text::is_letter(s[i]));
-        i += 1;
+    if !spaced(s) {
+        return false;
     }
-    3 <= n
-}
-
-fn city_byte(x: u8) -> bool
-    ensures { λ r. ⌜ r ≡ cityByte x ⌝ }
-{
-    text::is_letter(x) | (x == b' ')
-}
-
-fn city_bytes(s: &[u8]) -> bool
-    ensures { λ r. ⌜ r ≡ every cityByte (now (s .entry)) ⌝ }
-{
-    let mut all = true;
-    let mut i = 0;
-    while i < s.len() {
-        all = all & city_byte(s[i]);
-        i += 1;
-    }
-    all
+    let kinds = kinds::table();
+    is_in(&kinds, ALNUM, text::byte(s, 0)) & all_of(&kinds, STREET, s)
 }
 
 pub fn city(s: &[u8]) -> bool
     ensures { λ r. ⌜ r ≡ city (now (s .entry)) ⌝ }
 {
-    spaced(s) & three_letters(s) & city_bytes(s)
-}
-
-fn some_alnum(s: &[u8]) -> bool
-    ensures { λ r. ⌜ r ≡ any isAlnum (now (s .entry)) ⌝ }
-{
-    let mut i = 0;
-    while i < s.len() {
-        if is_alnum(s[i]) {
-            return true;
-        }
-        i += 1;
+    if !spaced(s) {
+        return false;
     }
-    false
+    let kinds = kinds::table();
+    (3 <= count_of(&kinds, LETTER, s)) & all_of(&kinds, CITY, s)
 }
 
-fn account_byte(x: u8) -> bool
-    ensures { λ r. ⌜ r ≡ accountByte x ⌝ }
-{
-    is_alnum(x) | (x == b'-')
-}
-
-fn account_bytes(s: &[u8]) -> bool
-    ensures { λ r. ⌜ r ≡ every accountByte (now (s .entry)) ⌝ }
-{
-    let mut i = 0;
-    while i < s.len() {
-        if !account_byte(s[i]) {
-            return false;
-        }
-        i += 1;
-    }
-    true
-}
-
+// The account is what stands before the first byte that can be in none; after it only blanks.
 pub fn account(s: &[u8]) -> bool
     ensures { λ r. ⌜ r ≡ account (now (s .entry)) ⌝ }
 {
-    let t = trimmed(s);
-    some_alnum(t) & account_bytes(t) & !text::zeros(t)
+    let kinds = kinds::table();
+    let n = first_not_of(&kinds, ACCOUNT, s);
+    if !text::blank(&s[n..]) {
+        return false;
+    }
+    let t = &s[0..n];
+    some_of(&kinds, ALNUM, t) & !text::zeros(t)
 }
 
-pub fn routing(s: &[u8]) -> bool
-    ensures { λ r. ⌜ r ≡ routing (now (s .entry)) ⌝ }
+// The first two of a routing number, if it is digits, are 01 to 12 or 21 to 32.
+pub fn district(s: &[u8]) -> bool
+    ensures { λ r. ⌜ r ≡ (within 1 12 (number (take 2 (now (s .entry)))) || within 21 32 (number (take 2 (now (s .entry))))) ⌝ }
 {
     let n = text::number(s, 0, 2);
-    text::digits(s) & ((1 <= n) & (n <= 12) | (21 <= n) & (n <= 32))
+    (1 <= n) & (n <= 12) | (21 <= n) & (n <= 32)
 }
 
-fn digits_then(s: &[u8], n: usize) -> bool
+fn digits_then(kinds: &[u8; 256], s: &[u8], n: usize) -> bool
+    requires { ⌜ now kinds ≡ table ⌝ }
     ensures { λ r. ⌜ r ≡ digitsThen n (now (s .entry)) ⌝ }
 {
-    text::digits(text::piece(s, 0, n)) & text::blank(text::piece(s, n, s.len()))
+    all_of(kinds, DIGIT, text::piece(s, 0, n)) & text::blank(text::piece(s, n, s.len()))
 }
 
 pub fn zip(s: &[u8]) -> bool
     ensures { λ r. ⌜ r ≡ zip (now (s .entry)) ⌝ }
 {
-    digits_then(s, 5) | digits_then(s, 9) | digits_then(s, 12)
+    let kinds = kinds::table();
+    digits_then(&kinds, s, 5) | digits_then(&kinds, s, 9) | digits_then(&kinds, s, 12)
 }
 
 pub fn zip_ends_00(s: &[u8]) -> bool
@@ -227,8 +149,9 @@ pub fn zeros_then_blanks(s: &[u8]) -> bool
     true
 }
 
-pub fn hhmm(s: &[u8]) -> bool
-    ensures { λ r. ⌜ r ≡ hhmm (now (s .entry)) ⌝ }
+// Hours to 23 and minutes to 59, if they are digits.
+pub fn clock(s: &[u8]) -> bool
+    ensures { λ r. ⌜ r ≡ (leb (number (take 2 (now (s .entry)))) 23 && leb (number (part 2 2 (now (s .entry)))) 59) ⌝ }
 {
-    text::digits(s) & (text::number(s, 0, 2) <= 23) & (text::number(s, 2, 2) <= 59)
+    (text::number(s, 0, 2) <= 23) & (text::number(s, 2, 2) <= 59)
 }

@@ -1,28 +1,82 @@
 // The rules of the 4868: which of them a form breaks.
+use kinds::DIGIT;
+use kinds::LETTER;
+use kinds::all_of;
+use kinds::present_but_not;
 use paper::Facts;
+use paper::Identity;
 use paper::Layout;
 ghost use mathlib.Core.Path.{_≡_};
 ghost use mathlib.Core.Bool.{not, cond, _&&_};
 ghost use mathlib.Core.List.{[], _∷_};
-ghost use Prim.Native.Nat.{_^_, _≤_};
-ghost use lib.Dec.{eqb};
+ghost use Prim.Native.Nat.{_-_, _%_, _≤_};
+ghost use lib.Dec.{eqb, leb};
 ghost use lib.ListN.{length, getD};
 ghost use Rattle.paper.specs.declared.Layout.the-variants.{L4868};
-ghost use Rattle.paper.specs.Bytes.{within, empty};
+ghost use Rattle.paper.specs.Bytes.{within, empty, letters};
 ghost use Rattle.paper.specs.Fields.{street, city};
 ghost use Rattle.paper.specs.Layouts.{field};
 ghost use Rattle.paper.specs.Pack.{linesIn};
-ghost use Rattle.paper.specs.Conditions.{factsOf, notAbove, formFillers, foreign, addressed, wrongState, badZip, wrongZip, wrongForeign, noSpouse, formRules};
+ghost use Rattle.paper.specs.Conditions.{factsOf, formFillers, foreign, addressed, wrongState, badZip, wrongZip, wrongForeign, noSpouse, formRules};
 ghost use Rattle.text.specs.Words.{little};
+ghost use Rattle.kinds.specs.Kinds.{table};
 ghost use Rattle.words.specs.Sets.{bitsOn, bitsBy};
 ghost use Rattle.words.specs.Tables.{ruleText};
-ghost use Rattle.words.specs.Past.{earlier};
+ghost use Rattle.words.specs.Past.{numberIf, identityOf, noIdentity};
 ghost use Rattle.form.specs.Breaks.{breaks};
+ghost use Rattle.form.specs.Told.{toldBy};
+
+// What the table of kinds says of a form's fields: its numbers, whether 0060 is letters, and whether 0100 is digits.
+struct Told {
+    identity: Identity,
+    letters60: bool,
+    digits100: bool,
+}
+
+// The set of the rules that a form breaks, and its numbers.
+pub struct Reading {
+    pub set: u64,
+    pub identity: Identity,
+}
 
 fn field_of(n: u32, form: &[u8]) -> &[u8]
     ensures { λ p. ⌜ now p ≡ field L4868 n (now (form .entry)) ⌝ }
 {
     layout::field_of(Layout::L4868, n, form)
+}
+
+// The number that a field writes, and 1; 0 where it is not digits.
+fn number_in(kinds: &[u8; 256], f: &[u8]) -> u64
+    requires { ⌜ now kinds ≡ table ⌝ }
+    ensures { λ r. ⌜ r ≡ numberIf (now (f .entry)) ⌝ }
+{
+    if !all_of(kinds, DIGIT, f) {
+        return 0;
+    }
+    text::number_of(f) + 1
+}
+
+fn identity_of(kinds: &[u8; 256], form: &[u8]) -> Identity
+    requires { ⌜ now kinds ≡ table ⌝ }
+    ensures { λ r. ⌜ r ≡ identityOf (now (form .entry)) ⌝ }
+{
+    Identity {
+        ssn: number_in(kinds, field_of(90, form)),
+        dsn: number_in(kinds, field_of(7, form)),
+        dcn: number_in(kinds, field_of(8, form)),
+    }
+}
+
+fn tell(kinds: &[u8; 256], form: &[u8]) -> Told
+    requires { ⌜ now kinds ≡ table ⌝ }
+    ensures { λ r. ⌜ r ≡ toldBy (now (form .entry)) ⌝ }
+{
+    let identity = identity_of(kinds, form);
+    Told {
+        identity,
+        letters60: all_of(kinds, LETTER, field_of(60, form)),
+        digits100: all_of(kinds, DIGIT, field_of(100, form)),
+    }
 }
 
 // 0045: a filler not blank.
@@ -82,13 +136,14 @@ fn no_lines(zips: &[u8]) -> bool
     zips.len() / 8 == 0
 }
 
-fn wrong_state(form: &[u8], zips: &[u8]) -> bool
+fn wrong_state(is_letters: bool, form: &[u8], zips: &[u8]) -> bool
+    requires { ⌜ «is_letters» ≡ letters (field L4868 60 (now form)) ⌝ }
     ensures { λ r. ⌜ r ≡ wrongState (now (form .entry)) (linesIn 8 (now (zips .entry))) ⌝ }
 {
     if !is_addressed(60, form) {
         return false;
     }
-    !text::letters(field_of(60, form)) | no_lines(zips)
+    !is_letters | no_lines(zips)
 }
 
 fn bad_zip(f: &[u8], zips: &[u8]) -> bool
@@ -135,24 +190,32 @@ fn no_spouse(form: &[u8]) -> bool
     text::blank(field_of(100, form))
 }
 
-// 0060, 0061: digits, and not above the earlier number. Past is that number and 1, or 0 for none; size is the first number of more digits.
-fn not_above(f: &[u8], past: u64, size: u64) -> bool
-    requires { ⌜ (size ≡ 10 ^ length (now f)) × (1 ≤ length (now f)) × (length (now f) ≤ 16) ⌝ }
-    ensures { λ r. ⌜ r ≡ notAbove (now (f .entry)) (earlier (length (now (f .entry))) past) ⌝ }
+// 0060, 0061: digits, and not above the earlier number. Both are the number and 1, or 0 for none; size is the first number of more digits.
+fn not_above(number: u64, past: u64, size: u64) -> bool
+    requires { ⌜ 1 ≤ size ⌝ }
+    ensures { λ r. ⌜ r ≡ (not (eqb number 0) && not (eqb past 0) && leb (number - 1) ((past - 1) % size)) ⌝ }
 {
+    if number == 0 {
+        return false;
+    }
     if past == 0 {
         return false;
     }
-    text::digits(f) & (text::number_of(f) <= (past - 1) % size)
+    number - 1 <= (past - 1) % size
 }
 
 // The rules on the form and its head, before later ones.
-fn of_head(form: &[u8], date: &[u8], whole: Facts, later: u64) -> u64
+fn of_head(form: &[u8], told: Told, date: &[u8], whole: Facts, later: u64) -> u64
+    requires { ⌜ told ≡ toldBy (now form) ⌝ }
     ensures { λ r. ⌜ r ≡ bitsOn (breaks (now (form .entry)) [] [] [] 0 0 (now (date .entry)) whole) (1 ∷ 44 ∷ 45 ∷ 310 ∷ 30004 ∷ 50003 ∷ []) later ⌝ }
 {
     let set = words::and_rule(!text::is_same(field_of(5, form), b"200312"), later);
     let set = words::and_rule(
-        words::other_number(field_of(3, form), field_of(90, form)),
+        words::other_number(
+            told.identity.ssn != 0,
+            field_of(3, form),
+            field_of(90, form),
+        ),
         set,
     );
     let set = words::and_rule(words::late(date), set);
@@ -162,20 +225,23 @@ fn of_head(form: &[u8], date: &[u8], whole: Facts, later: u64) -> u64
 }
 
 // The rules on 0007 and 0008, the numbers of the declaration, before later ones.
-fn of_numbers(form: &[u8], dsn: u64, dcn: u64, later: u64) -> u64
-    requires { ⌜ length (now form) ≡ 384 ⌝ }
+fn of_numbers(form: &[u8], told: Told, dsn: u64, dcn: u64, later: u64) -> u64
+    requires { ⌜ (told ≡ toldBy (now form)) × (length (now form) ≡ 384) ⌝ }
     ensures { λ r. ⌜ r ≡ bitsOn (breaks (now (form .entry)) [] [] [] dsn dcn [] (factsOf [])) (70031 ∷ 70060 ∷ 80032 ∷ 80061 ∷ 80062 ∷ 80064 ∷ []) later ⌝ }
 {
-    let set = words::and_rule(words::not_year_4(field_of(8, form)), later);
-    let set = words::and_rule(words::not_double_0(field_of(8, form)), set);
-    let set = words::and_rule(not_above(field_of(8, form), dcn, 100000000000000), set);
-    let set = words::and_rule(!text::digits(field_of(8, form)), set);
-    let set = words::and_rule(not_above(field_of(7, form), dsn, 10000000000000000), set);
-    words::and_rule(!text::digits(field_of(7, form)), set)
+    let own_dsn = told.identity.dsn;
+    let own_dcn = told.identity.dcn;
+    let set = words::and_rule(words::not_year_4(own_dcn != 0, field_of(8, form)), later);
+    let set = words::and_rule(words::not_double_0(own_dcn != 0, field_of(8, form)), set);
+    let set = words::and_rule(not_above(own_dcn, dcn, 100000000000000), set);
+    let set = words::and_rule(own_dcn == 0, set);
+    let set = words::and_rule(not_above(own_dsn, dsn, 10000000000000000), set);
+    words::and_rule(own_dsn == 0, set)
 }
 
 // The rules on 0010 to 0030, the names, before later ones.
-fn of_names(form: &[u8], payer: &[u8], spouse: &[u8], later: u64) -> u64
+fn of_names(form: &[u8], told: Told, payer: &[u8], spouse: &[u8], later: u64) -> u64
+    requires { ⌜ told ≡ toldBy (now form) ⌝ }
     ensures { λ r. ⌜ r ≡ bitsOn (breaks (now (form .entry)) (now (payer .entry)) (now (spouse .entry)) [] 0 0 [] (factsOf [])) (100315 ∷ 200316 ∷ 300020 ∷ 300312 ∷ []) later ⌝ }
 {
     let set = words::and_rule(
@@ -184,23 +250,24 @@ fn of_names(form: &[u8], payer: &[u8], spouse: &[u8], later: u64) -> u64
     );
     let set = words::and_rule(!field::name(field_of(30, form)), set);
     let set = words::and_rule(
-        words::unlisted(field_of(100, form), field_of(20, form), spouse),
+        words::unlisted(told.digits100, field_of(20, form), spouse),
         set,
     );
     words::and_rule(
-        words::unlisted(field_of(90, form), field_of(10, form), payer),
+        words::unlisted(told.identity.ssn != 0, field_of(10, form), payer),
         set,
     )
 }
 
 // The rules on 0032 to 0080, the address, before later ones.
-fn of_address(form: &[u8], zips: &[u8], later: u64) -> u64
+fn of_address(form: &[u8], told: Told, zips: &[u8], later: u64) -> u64
+    requires { ⌜ told ≡ toldBy (now form) ⌝ }
     ensures { λ r. ⌜ r ≡ bitsOn (breaks (now (form .entry)) [] [] (now (zips .entry)) 0 0 [] (factsOf [])) (320007 ∷ 340007 ∷ 360023 ∷ 400007 ∷ 500023 ∷ 600022 ∷ 700016 ∷ 800010 ∷ 800306 ∷ []) later ⌝ }
 {
     let set = words::and_rule(wrong_foreign(form), later);
     let set = words::and_rule(!words::one_of(b"123 ", field_of(80, form)), set);
     let set = words::and_rule(wrong_zip(form, zips), set);
-    let set = words::and_rule(wrong_state(form, zips), set);
+    let set = words::and_rule(wrong_state(told.letters60, form, zips), set);
     let set = words::and_rule(wrong_city(is_addressed(50, form), field_of(50, form)), set);
     let set = words::and_rule(
         wrong_street(is_addressed(40, form), field_of(40, form)),
@@ -218,31 +285,33 @@ fn of_address(form: &[u8], zips: &[u8], later: u64) -> u64
 }
 
 // The rules on 0090 to 0114, the taxpayer and the spouse, before later ones.
-fn of_payers(form: &[u8], later: u64) -> u64
+fn of_payers(form: &[u8], told: Told, later: u64) -> u64
+    requires { ⌜ told ≡ toldBy (now form) ⌝ }
     ensures { λ r. ⌜ r ≡ bitsOn (breaks (now (form .entry)) [] [] [] 0 0 [] (factsOf [])) (900010 ∷ 1000010 ∷ 1000071 ∷ 1000314 ∷ 1120010 ∷ 1140010 ∷ []) later ⌝ }
 {
     let set = words::and_rule(words::not_x(field_of(114, form)), later);
     let set = words::and_rule(words::not_x(field_of(112, form)), set);
     let set = words::and_rule(no_spouse(form), set);
-    let set = words::and_rule(words::no_number(field_of(100, form)), set);
-    let set = words::and_rule(words::not_digits(field_of(100, form)), set);
-    words::and_rule(!text::digits(field_of(90, form)), set)
+    let set = words::and_rule(words::no_number(told.digits100, field_of(100, form)), set);
+    let set = words::and_rule(!text::blank(field_of(100, form)) & !told.digits100, set);
+    words::and_rule(told.identity.ssn == 0, set)
 }
 
 // The rules on 0120 to 0210, the money, before later ones.
-fn of_money(form: &[u8], later: u64) -> u64
+fn of_money(kinds: &[u8; 256], form: &[u8], later: u64) -> u64
+    requires { ⌜ now kinds ≡ table ⌝ }
     ensures { λ r. ⌜ r ≡ bitsOn (breaks (now (form .entry)) [] [] [] 0 0 [] (factsOf [])) (1200010 ∷ 1300010 ∷ 1400010 ∷ 1700010 ∷ 1800010 ∷ 2000010 ∷ 2100010 ∷ []) later ⌝ }
 {
-    let set = words::and_rule(words::not_digits(field_of(210, form)), later);
-    let set = words::and_rule(words::not_digits(field_of(200, form)), set);
-    let set = words::and_rule(words::not_digits(field_of(180, form)), set);
-    let set = words::and_rule(words::not_digits(field_of(170, form)), set);
-    let set = words::and_rule(words::not_digits(field_of(140, form)), set);
-    let set = words::and_rule(words::not_digits(field_of(130, form)), set);
-    words::and_rule(words::not_digits(field_of(120, form)), set)
+    let set = words::and_rule(present_but_not(kinds, DIGIT, field_of(210, form)), later);
+    let set = words::and_rule(present_but_not(kinds, DIGIT, field_of(200, form)), set);
+    let set = words::and_rule(present_but_not(kinds, DIGIT, field_of(180, form)), set);
+    let set = words::and_rule(present_but_not(kinds, DIGIT, field_of(170, form)), set);
+    let set = words::and_rule(present_but_not(kinds, DIGIT, field_of(140, form)), set);
+    let set = words::and_rule(present_but_not(kinds, DIGIT, field_of(130, form)), set);
+    words::and_rule(present_but_not(kinds, DIGIT, field_of(120, form)), set)
 }
 
-// The set of the rules that a form breaks. The lines that the pack has of 0090, 0100 and the state are looked up by the caller; dsn and
+// The lines that the pack has of 0090, 0100 and the state are looked up by the caller; dsn and
 // dcn are 0007 and 0008 of the nearest earlier form and 1, 0 for none.
 pub fn broken(
     form: &[u8],
@@ -253,18 +322,26 @@ pub fn broken(
     dcn: u64,
     date: &[u8],
     whole: Facts,
-) -> u64
-    ensures { λ r. ⌜ r ≡ cond (eqb (length (now (form .entry))) 384) (bitsBy (breaks (now (form .entry)) (now (payer .entry)) (now (spouse .entry)) (now (zips .entry)) dsn dcn (now (date .entry)) whole) formRules) 0 ⌝ }
+) -> Reading
+    ensures { λ r. ⌜ r .set ≡ cond (eqb (length (now (form .entry))) 384) (bitsBy (breaks (now (form .entry)) (now (payer .entry)) (now (spouse .entry)) (now (zips .entry)) dsn dcn (now (date .entry)) whole) formRules) 0 ⌝ }
+    ensures { λ r. ⌜ r .identity ≡ cond (eqb (length (now (form .entry))) 384) (identityOf (now (form .entry))) noIdentity ⌝ }
 {
     if form.len() != 384 {
-        return 0;
+        return Reading {
+            set: 0,
+            identity: paper::NO_IDENTITY,
+        };
     }
-    let set = of_money(form, 0);
-    let set = of_payers(form, set);
-    let set = of_address(form, zips, set);
-    let set = of_names(form, payer, spouse, set);
-    let set = of_numbers(form, dsn, dcn, set);
-    of_head(form, date, whole, set)
+    let kinds = kinds::table();
+    let told = tell(&kinds, form);
+    let set = of_money(&kinds, form, 0);
+    let set = of_payers(form, told, set);
+    let set = of_address(form, told, zips, set);
+    let set = of_names(form, told, payer, spouse, set);
+    let set = of_numbers(form, told, dsn, dcn, set);
+    let set = of_head(form, told, date, whole, set);
+    let identity = told.identity;
+    Reading { set, identity }
 }
 
 // The text of the rule at a place of the table, its field and its code: eight bytes, the first one lowest.

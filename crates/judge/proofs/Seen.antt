@@ -1,22 +1,23 @@
 -- What a document sees of the earlier ones, as numbers, and what it leaves for the later ones. Assumes nothing.
 use mathlib.Core.Path.{_≡_, refl, sym, ap, _∙_}
-use mathlib.Core.Bool.{Bool, true, false, not, cond, _&&_, _||_}
+use mathlib.Core.Bool.{Bool, true, false, not, cond, _&&_, _||_, or-false, or-assoc}
 use mathlib.Core.List.{List, [], _∷_, _++_, map, map-append}
 use Prim.Native.Nat.{ℕ, suc, _+_, _-_, _%_, _≤_, _<_, min}
 use native.Mathlib.Nat.{mod-lt, mod-eq-of-lt}
 use native.Mathlib.Numerals.{add-one}
 use native.Mathlib.Omega.{arith}
-use borrow.Author.Tests.{lt-ltb, le-ltb, ne-eqb, ltb-true, ltb-false, leb-true, leb-false, not-true, not-false}
+use borrow.Author.Tests.{lt-ltb, le-ltb, ne-eqb, ltb-true, ltb-false, leb-true, leb-false}
 use lib.Dec.{eqb, leb, ltb, lit<}
 use lib.ListN.{length, getD, take, drop, set, length-set, length-take, length-drop}
 use lib.Seq.{take-all, take-suc-set}
+use Rattle.paper.specs.declared.Identity.{Identity}
 use Rattle.paper.specs.declared.Layout.the-variants.{L4868}
 use Rattle.paper.specs.declared.Letter.{Letter}
 use Rattle.paper.specs.Bytes.{Bytes, any, those, same, member, part, digits, number, written}
 use Rattle.paper.specs.Layouts.{form4868, entry, field}
 use Rattle.paper.specs.Judge.{start, digitsOr, isA}
 use Rattle.paper.proofs.Laws.{next, never, both, same-eq}
-use Rattle.words.specs.Past.{earlier}
+use Rattle.words.specs.Past.{numberIf, identityOf, earlier}
 use Rattle.words.proofs.Digits.{length-written, digits-written, number-written, number-written-whole, written-number, same-number}
 use Rattle.judge.specs.declared.Past.{Past}
 use Rattle.judge.specs.Seen.{numbersIn, seenBy, noPast, numberAfter, nextPast, nextRow}
@@ -90,31 +91,37 @@ module _ (p : ℕ → Bool) (row : List ℕ) (n : ℕ) where
       → any p (take n row) ≡ ((a || b) || any p (take (n - (i + 1)) (drop (i + 1) row)))
   any-again i a b h l v e =
       let m : n - i ≡ suc (n - (i + 1)) = omega arith in
-      v ∙ (λ j. a || any p (take (m j) (next row i l j))) ∙ ap (λ (c : Bool). a || (c || any p (take (n - (i + 1)) (drop (i + 1) row)))) (sym e) ∙ assoc a b (any p (take (n - (i + 1)) (drop (i + 1) row)))
-    where
-      assoc : (x y z : Bool) → (x || (y || z)) ≡ ((x || y) || z)
-      assoc true y z = refl
-      assoc false y z = refl
+      v ∙ (λ j. a || any p (take (m j) (next row i l j))) ∙ ap (λ (c : Bool). a || (c || any p (take (n - (i + 1)) (drop (i + 1) row)))) (sym e) ∙ sym (or-assoc a b (any p (take (n - (i + 1)) (drop (i + 1) row))))
 
   pub any-done : (i : ℕ) (a : Bool) → n ≤ i → any p (take n row) ≡ (a || any p (take (n - i) (drop i row))) → a ≡ any p (take n row)
   any-done i a h v = let z : 0 ≡ n - i = omega arith in sym (v ∙ ap (λ (k : ℕ). a || any p (take k (drop i row))) (sym z) ∙ or-false a)
-    where
-      or-false : (x : Bool) → (x || false) ≡ x
-      or-false true = refl
-      or-false false = refl
 
-module _ (s : Bytes) (row : List ℕ) (w : length s ≡ 9) (d : Bool) (ed : d ≡ digits s) where
-  pub accepted-no : not d ≡ true → false ≡ member s (numbersIn row)
-  accepted-no h = sym (among s row w ∙ ap (λ (b : Bool). b && any (eqb (number s)) row) (sym ed ∙ not-true d h))
+-- of the numbers of a row, as many as there are
+pub accepted-yes : (ssn n m : ℕ) (row : List ℕ) → (ssn ≡ 0 → ⊥) → m ≡ min (length row) n → (r : Bool) → r ≡ any (eqb (ssn - 1)) (take m row)
+    → r ≡ (not (eqb ssn 0) && any (eqb (ssn - 1)) (take n row))
+accepted-yes ssn n m row h em r er =
+    er ∙ ap (any (eqb (ssn - 1))) (ap (λ (k : ℕ). take k row) em ∙ take-room n row) ∙ ap (λ (b : Bool). not b && any (eqb (ssn - 1)) (take n row)) (sym (ne-eqb ssn 0 h))
 
-module _ (s : Bytes) (row : List ℕ) (w : length s ≡ 9) (d : Bool) (ed : d ≡ digits s) (h : not d ≡ false) (key : ℕ) (ek : key ≡ number (take 16 s)) where
-  pub accepted-low : key < 1000000000
-  accepted-low = omega (arith, ek ∙ ap number (take-all 16 s (omega (arith, w))), nine-below s w (sym ed ∙ not-false d h))
+-- the number of nine digits, and none of other bytes
+nine-number : (s : Bytes) → length s ≡ 9 → numberIf s ≡ cond (digits s) (number s + 1) 0
+unfolding numberIf
+nine-number s w = ap (λ (x : Bytes). cond (digits s) (number x + 1) 0) (take-all 16 s (omega (arith, w)))
 
-  pub accepted-yes : (n m : ℕ) → m ≡ min (length row) n → (r : Bool) → r ≡ any (eqb key) (take m row) → r ≡ member s (numbersIn (take n row))
-  accepted-yes n m em r er =
-      er ∙ (λ i. any (eqb ((ek ∙ ap number (take-all 16 s (omega (arith, w)))) i)) ((ap (λ (k : ℕ). take k row) em ∙ take-room n row) i))
-      ∙ ap (λ (b : Bool). b && any (eqb (number s)) (take n row)) (sym (sym ed ∙ not-false d h)) ∙ sym (among s (take n row) w)
+nine-few : (s : Bytes) → length s ≡ 9 → numberIf s ≤ 1000000000
+nine-few s w = omega (arith, nine-number s w, by (digits s) refl)
+  where
+    by : (d : Bool) → digits s ≡ d → cond d (number s + 1) 0 ≤ 1000000000
+    by true e = omega (arith, nine-below s w e)
+    by false e = omega arith
+
+number-member : (s : Bytes) (row : List ℕ) → length s ≡ 9 → (not (eqb (numberIf s) 0) && any (eqb (numberIf s - 1)) row) ≡ member s (numbersIn row)
+number-member s row w = ap (λ (n : ℕ). not (eqb n 0) && any (eqb (n - 1)) row) (nine-number s w) ∙ by (digits s) ∙ sym (among s row w)
+  where
+    by : (d : Bool) → (not (eqb (cond d (number s + 1) 0) 0) && any (eqb (cond d (number s + 1) 0 - 1)) row) ≡ (d && any (eqb (number s)) row)
+    by true =
+        let m : number s + 1 - 1 ≡ number s = omega arith in
+        λ i. not (ne-eqb (number s + 1) 0 (λ q. omega arith) i) && any (eqb (m i)) row
+    by false = refl
 
 -- WHAT A FORM LEAVES
 
@@ -126,12 +133,25 @@ pub form-wide : (form : Bytes) → length form ≡ 384 → (length (field L4868 
 unfolding field entry form4868
 form-wide form h = (part-wide 42 16 form (omega (arith, h)), part-wide 58 14 form (omega (arith, h)), part-wide 279 9 form (omega (arith, h)))
 
+-- the primary number of a form among those of a row
+module _ (form : Bytes) (row : List ℕ) (x : Identity) (s : Bytes) (ex : x ≡ identityOf form) (h : length form ≡ 384) (es : s ≡ field L4868 90 form) where
+  pub own-member : (b : Bool) → b ≡ (not (eqb (x .ssn) 0) && any (eqb (x .ssn - 1)) row) → b ≡ member s (numbersIn row)
+  unfolding identityOf
+  own-member b e =
+      e ∙ ap (λ (y : Identity). not (eqb (y .ssn) 0) && any (eqb (y .ssn - 1)) row) ex ∙ number-member (field L4868 90 form) row (form-wide form h .2)
+      ∙ ap (λ (y : Bytes). member y (numbersIn row)) (sym es)
+
+-- it is below ten digits
+pub own-few : (form : Bytes) (x : Identity) → x ≡ identityOf form → length form ≡ 384 → x .ssn ≤ 1000000000
+unfolding identityOf
+own-few form x ex h = omega (arith, ap (λ (y : Identity). y .ssn) ex, nine-few (field L4868 90 form) (form-wide form h .2))
+
 -- what the code leaves
-module _ (form : Bytes) (l : Letter) (p : Past) (row : List ℕ) (f7 f8 : Bytes) (dsn dcn : ℕ) (a : Bool) (w : length form ≡ 384)
-    (e7 : f7 ≡ field L4868 7 form) (ed : dsn ≡ numberAfter f7 (p .dsn)) (e8 : f8 ≡ field L4868 8 form) (ec : dcn ≡ numberAfter f8 (p .dcn)) (ea : a ≡ isA l) where
-  numbers-are : (n : ℕ) → n ≡ cond (isA l && ltb (p .n) (length row)) (p .n + 1) (p .n) → record { dsn = dsn; dcn = dcn; n = n } ≡ nextPast form l p row
+module _ (x : Identity) (l : Letter) (p : Past) (row : List ℕ) (dsn dcn : ℕ) (a : Bool)
+    (ed : dsn ≡ numberAfter (x .dsn) (p .dsn)) (ec : dcn ≡ numberAfter (x .dcn) (p .dcn)) (ea : a ≡ isA l) where
+  numbers-are : (n : ℕ) → n ≡ cond (isA l && ltb (p .n) (length row)) (p .n + 1) (p .n) → record { dsn = dsn; dcn = dcn; n = n } ≡ nextPast x l p row
   unfolding nextPast
-  numbers-are n e = λ i. record { dsn = (ed ∙ ap (λ (x : Bytes). numberAfter x (p .dsn)) e7) i; dcn = (ec ∙ ap (λ (x : Bytes). numberAfter x (p .dcn)) e8) i; n = e i }
+  numbers-are n e = λ i. record { dsn = ed i; dcn = ec i; n = e i }
 
   full : (not a || leb (length row) (p .n)) ≡ true → (isA l && ltb (p .n) (length row)) ≡ false
   full h = ap (λ (b : Bool). b && ltb (p .n) (length row)) (sym ea) ∙ by a (leb (length row) (p .n)) refl h
@@ -149,31 +169,31 @@ module _ (form : Bytes) (l : Letter) (p : Past) (row : List ℕ) (f7 f8 : Bytes)
       by true false q z = lt-ltb (p .n) (length row) (leb-false (length row) (p .n) q)
       by false c q z = absurd (never (sym z))
 
-  pub pass-no : (not a || leb (length row) (p .n)) ≡ true → (record { dsn = dsn; dcn = dcn; n = p .n } ≡ nextPast form l p row) × (row ≡ nextRow form l p row)
+  pub pass-no : (not a || leb (length row) (p .n)) ≡ true → (record { dsn = dsn; dcn = dcn; n = p .n } ≡ nextPast x l p row) × (row ≡ nextRow x l p row)
   unfolding nextRow
-  pass-no h = (numbers-are (p .n) (sym (ap (λ (b : Bool). cond b (p .n + 1) (p .n)) (full h))), sym (ap (λ (b : Bool). cond b (set row (p .n) (number (field L4868 90 form) % 4294967296)) row) (full h)))
+  pass-no h = (numbers-are (p .n) (sym (ap (λ (b : Bool). cond b (p .n + 1) (p .n)) (full h))), sym (ap (λ (b : Bool). cond b (set row (p .n) ((x .ssn - 1) % 4294967296)) row) (full h)))
 
   pub pass-room : (not a || leb (length row) (p .n)) ≡ false → p .n < length row
   pass-room h = ltb-true (p .n) (length row) (both (isA l) (ltb (p .n) (length row)) (room-for h) .1)
 
-  pub pass-yes : (not a || leb (length row) (p .n)) ≡ false → (f90 : Bytes) (x : ℕ) → f90 ≡ field L4868 90 form → x ≡ number (take 16 f90)
-      → (record { dsn = dsn; dcn = dcn; n = p .n + 1 } ≡ nextPast form l p row) × (set row (p .n) (x % 4294967296) ≡ nextRow form l p row)
+  pub pass-yes : (not a || leb (length row) (p .n)) ≡ false → (n : ℕ) → n ≡ x .ssn - 1
+      → (record { dsn = dsn; dcn = dcn; n = p .n + 1 } ≡ nextPast x l p row) × (set row (p .n) (n % 4294967296) ≡ nextRow x l p row)
   unfolding nextRow
-  pass-yes h f90 x e90 ex =
-      let z : x ≡ number (field L4868 90 form) = ex ∙ ap (λ (y : Bytes). number (take 16 y)) e90 ∙ ap number (take-all 16 (field L4868 90 form) (omega (arith, form-wide form w .2))) in (
-        numbers-are (p .n + 1) (sym (ap (λ (b : Bool). cond b (p .n + 1) (p .n)) (room-for h))),
-        ap (λ (y : ℕ). set row (p .n) (y % 4294967296)) z ∙ sym (ap (λ (b : Bool). cond b (set row (p .n) (number (field L4868 90 form) % 4294967296)) row) (room-for h)),
-      )
+  pass-yes h n en = (
+    numbers-are (p .n + 1) (sym (ap (λ (b : Bool). cond b (p .n + 1) (p .n)) (room-for h))),
+    ap (λ (y : ℕ). set row (p .n) (y % 4294967296)) en ∙ sym (ap (λ (b : Bool). cond b (set row (p .n) ((x .ssn - 1) % 4294967296)) row) (room-for h)),
+  )
 
 -- digits, or what is known of an earlier number
-pub nearest : (w n : ℕ) (f : Bytes) → length f ≡ w → earlier w (numberAfter f n) ≡ digitsOr f (earlier w n)
-unfolding earlier
-nearest w n f e = by (digits f) refl
+pub nearest : (w n : ℕ) (f : Bytes) → length f ≡ w → w ≤ 16 → earlier w (numberAfter (numberIf f) n) ≡ digitsOr f (earlier w n)
+unfolding earlier numberIf
+nearest w n f e h = ap (λ (x : Bytes). earlier w (numberAfter (cond (digits f) (number x + 1) 0) n)) (take-all 16 f (omega (arith, e, h))) ∙ by (digits f) refl
   where
-    by : (b : Bool) → digits f ≡ b → cond (eqb (cond b (number f + 1) n) 0) [] (written w (cond b (number f + 1) n - 1)) ≡ cond b f (cond (eqb n 0) [] (written w (n - 1)))
+    by : (b : Bool) → digits f ≡ b → earlier w (numberAfter (cond b (number f + 1) 0) n) ≡ cond b f (earlier w n)
     by true d =
         let m : number f + 1 - 1 ≡ number f = omega arith in
-        ap (λ (c : Bool). cond c [] (written w (number f + 1 - 1))) (ne-eqb (number f + 1) 0 (λ q. omega arith))
+        let z : eqb (number f + 1) 0 ≡ false = ne-eqb (number f + 1) 0 (λ q. omega arith) in
+        ap (λ (c : Bool). earlier w (cond c n (number f + 1))) z ∙ ap (λ (c : Bool). cond c [] (written w (number f + 1 - 1))) z
         ∙ (λ i. written (sym e i) (m i)) ∙ written-number f d
     by false d = refl
 
@@ -197,38 +217,46 @@ more-numbers row s n d =
 
 module _ (form : Bytes) (l : Letter) (p : Past) (row : List ℕ) (room : p .n < length row)
     (n7 : length (field L4868 7 form) ≡ 16) (n8 : length (field L4868 8 form) ≡ 14) (n90 : length (field L4868 90 form) ≡ 9) (good : isA l ≡ true → digits (field L4868 90 form) ≡ true) where
-  numbers : numbersIn (take (nextPast form l p row .n) (nextRow form l p row)) ≡ cond (isA l) (numbersIn (take (p .n) row) ++ field L4868 90 form ∷ []) (numbersIn (take (p .n) row))
-  unfolding nextPast nextRow
+  abbrev own : Identity
+  own = identityOf form
+
+  numbers : numbersIn (take (nextPast own l p row .n) (nextRow own l p row)) ≡ cond (isA l) (numbersIn (take (p .n) row) ++ field L4868 90 form ∷ []) (numbersIn (take (p .n) row))
+  unfolding nextPast nextRow identityOf
   numbers = rw (lt-ltb (p .n) (length row) room) (by (isA l) refl)
     where
-      x : ℕ
-      x = number (field L4868 90 form) % 4294967296
+      ssn : Bytes
+      ssn = field L4868 90 form
 
-      by : (b : Bool) → isA l ≡ b → numbersIn (take (cond (b && true) (p .n + 1) (p .n)) (cond (b && true) (set row (p .n) x) row)) ≡ cond b (numbersIn (take (p .n) row) ++ field L4868 90 form ∷ []) (numbersIn (take (p .n) row))
+      x : ℕ
+      x = (numberIf ssn - 1) % 4294967296
+
+      by : (b : Bool) → isA l ≡ b → numbersIn (take (cond (b && true) (p .n + 1) (p .n)) (cond (b && true) (set row (p .n) x) row)) ≡ cond b (numbersIn (take (p .n) row) ++ ssn ∷ []) (numbersIn (take (p .n) row))
       by true a =
           let m : take (p .n + 1) (set row (p .n) x) ≡ take (p .n) row ++ x ∷ [] = rw add-one (take-suc-set row (p .n) x room) in
-          ap numbersIn m ∙ more-numbers (take (p .n) row) (field L4868 90 form) n90 (good a)
+          let z : numberIf ssn ≡ number ssn + 1 = nine-number ssn n90 ∙ ap (λ (d : Bool). cond d (number ssn + 1) 0) (good a) in
+          let y : numberIf ssn - 1 ≡ number ssn = omega (arith, z) in
+          ap numbersIn m ∙ ap (λ (k : ℕ). numbersIn (take (p .n) row ++ k % 4294967296 ∷ [])) y ∙ more-numbers (take (p .n) row) ssn n90 (good a)
       by false a = refl
 
   -- the next document sees what stands in the paper after this one
-  pub leaves : seenBy (nextPast form l p row) (nextRow form l p row) ≡ record {
+  pub leaves : seenBy (nextPast (identityOf form) l p row) (nextRow (identityOf form) l p row) ≡ record {
     dsn = digitsOr (field L4868 7 form) (seenBy p row .dsn);
     dcn = digitsOr (field L4868 8 form) (seenBy p row .dcn);
     accepted = cond (isA l) (seenBy p row .accepted ++ field L4868 90 form ∷ []) (seenBy p row .accepted);
   }
-  unfolding seenBy nextPast
+  unfolding seenBy nextPast identityOf
   leaves = λ i. record {
-    dsn = nearest 16 (p .dsn) (field L4868 7 form) n7 i;
-    dcn = nearest 14 (p .dcn) (field L4868 8 form) n8 i;
+    dsn = nearest 16 (p .dsn) (field L4868 7 form) n7 (omega arith) i;
+    dcn = nearest 14 (p .dcn) (field L4868 8 form) n8 (omega arith) i;
     accepted = numbers i;
   }
 
 -- a form adds its number where it got A, and nothing else
-pub next-few : (form : Bytes) (l : Letter) (p : Past) (row : List ℕ) → (nextPast form l p row .n ≤ p .n + cond (isA l) 1 0) × (length (nextRow form l p row) ≡ length row)
+pub next-few : (x : Identity) (l : Letter) (p : Past) (row : List ℕ) → (nextPast x l p row .n ≤ p .n + cond (isA l) 1 0) × (length (nextRow x l p row) ≡ length row)
 unfolding nextPast nextRow
-next-few form l p row = by (isA l) (ltb (p .n) (length row))
+next-few x l p row = by (isA l) (ltb (p .n) (length row))
   where
-    by : (a b : Bool) → (cond (a && b) (p .n + 1) (p .n) ≤ p .n + cond a 1 0) × (length (cond (a && b) (set row (p .n) (number (field L4868 90 form) % 4294967296)) row) ≡ length row)
-    by true true = (omega arith, length-set row (p .n) (number (field L4868 90 form) % 4294967296))
+    by : (a b : Bool) → (cond (a && b) (p .n + 1) (p .n) ≤ p .n + cond a 1 0) × (length (cond (a && b) (set row (p .n) ((x .ssn - 1) % 4294967296)) row) ≡ length row)
+    by true true = (omega arith, length-set row (p .n) ((x .ssn - 1) % 4294967296))
     by true false = (omega arith, refl)
     by false b = (omega arith, refl)

@@ -9,6 +9,7 @@ use lib.Dec.{eqb, ltb}
 use lib.ListN.{length, take, drop}
 use Rattle.paper.specs.declared.Facts.{Facts}
 use Rattle.paper.specs.declared.Findings.{Findings}
+use Rattle.paper.specs.declared.Identity.{Identity}
 use Rattle.paper.specs.declared.Kind.{Kind}
 use Rattle.paper.specs.declared.Kind.the-variants.{TranA, TranB, Form, Unknown, Payment, Auth, Summary, Recap, Stray}
 use Rattle.paper.specs.declared.Layout.the-variants.{L4868, LPayment}
@@ -24,7 +25,7 @@ use Rattle.paper.proofs.Laws.{never}
 use Rattle.paper.proofs.KindLaws.{is-eq}
 use Rattle.lookup.specs.Find.{lineIn, rowsIn}
 use Rattle.words.specs.Sets.{bitOn, bitsBy}
-use Rattle.words.specs.Past.{earlier}
+use Rattle.words.specs.Past.{identityOf, noIdentity, earlier}
 use Rattle.form.specs.Breaks.{breaks}
 use Rattle.walk.specs.declared.Extent.{Extent}
 use Rattle.walk.specs.Heads.{front}
@@ -181,20 +182,27 @@ module _ (t date : Bytes) (at : ℕ) (p : Past) (row : List ℕ) (k : Bool) (L :
   turn-is : T ≡ U
   turn-is = ap (λ (c : Case). turn date (seenBy p row) c) (sym (asked-if k L doc known-is))
 
-  module _ (found : Findings) (letter : Letter) (next : Past) (row' : List ℕ) (list x : List (List ℕ))
-      (e-held : held x found ≡ keptOf list (brokeIn at T)) (e-letter : letter ≡ letterOf T)
-      (e-past : next ≡ cond k (nextPast (doc .main) letter p row) p) (e-row : row' ≡ cond k (nextRow (doc .main) letter p row) row) where
-    pub judged-is : _≡_ {A = Judged} (record { judgment = record { size = e .size; letter = letter; known = k; found = found; facts = e .facts }; past = next }) (judgedOf at U p row)
+  module _ (found : Findings) (own : Identity) (letter : Letter) (next : Past) (row' : List ℕ) (list x : List (List ℕ))
+      (e-held : held x found ≡ keptOf list (brokeIn at T)) (e-own : own ≡ cond k (identityOf (doc .main)) noIdentity) (e-letter : letter ≡ letterOf T)
+      (e-past : next ≡ cond k (nextPast (identityOf (doc .main)) letter p row) p) (e-row : row' ≡ cond k (nextRow (identityOf (doc .main)) letter p row) row) where
+    pub judged-is : _≡_ {A = Judged} (record { judgment = record { size = e .size; letter = letter; known = k; identity = own; found = found; facts = e .facts }; past = next }) (judgedOf at U p row)
     unfolding judgmentOf extentOf
     judged-is =
         (λ i. record {
-          judgment = record { size = ee i .size; letter = e-letter i; known = sym known-is i; found = held-counted list x (brokeIn at T) found e-held i; facts = ee i .facts };
-          past = (e-past ∙ (λ j. cond (sym known-is j) (nextPast (doc .main) (e-letter j) p row) p)) i;
+          judgment = record {
+            size = ee i .size;
+            letter = e-letter i;
+            known = sym known-is i;
+            identity = (e-own ∙ ap (λ (b : Bool). cond b (identityOf (doc .main)) noIdentity) (sym known-is)) i;
+            found = held-counted list x (brokeIn at T) found e-held i;
+            facts = ee i .facts;
+          };
+          past = (e-past ∙ (λ j. cond (sym known-is j) (nextPast (identityOf (doc .main)) (e-letter j) p row) p)) i;
         })
         ∙ ap (λ (u : Turn). judgedOf at u p row) turn-is
 
     pub row-is : row' ≡ rowAfter U p row
-    row-is = e-row ∙ (λ j. cond (sym known-is j) (nextRow (doc .main) (e-letter j) p row) row) ∙ ap (λ (u : Turn). rowAfter u p row) turn-is
+    row-is = e-row ∙ (λ j. cond (sym known-is j) (nextRow (identityOf (doc .main)) (e-letter j) p row) row) ∙ ap (λ (u : Turn). rowAfter u p row) turn-is
 
     pub list-is : x ≡ listed list (brokeIn at U)
     list-is = held-listed list x (brokeIn at T) found e-held ∙ ap (λ (u : Turn). listed list (brokeIn at u)) turn-is
@@ -223,10 +231,10 @@ module _ (t taxpayers banks filed states date : Bytes) (at : ℕ) (p : Past) (ro
   unfolding brokeIn
   form-broke = λ i. brokeFrom (sight-is i) at 0 0 (record { bytes = docHere (drop at t) .main; bank = [] } ∷ items-are taxpayers banks filed states (docHere (drop at t) .others) i)
 
-  module _ (form : Bytes) (found : Findings) (letter : Letter) (next : Past) (row' : List ℕ) (list x : List (List ℕ)) (ef : form ≡ docHere (drop at t) .main)
-      (e-found : held x found ≡ keptOf list (formBroke at (docHere (drop at t)) taxpayers banks states date p (e .facts)))
+  module _ (form : Bytes) (found : Findings) (own : Identity) (letter : Letter) (next : Past) (row' : List ℕ) (list x : List (List ℕ)) (ef : form ≡ docHere (drop at t) .main)
+      (e-own : own ≡ identityOf form) (e-found : held x found ≡ keptOf list (formBroke at (docHere (drop at t)) taxpayers banks states date p (e .facts)))
       (e-letter : letter ≡ letterBy (eqb (found .rows) 0) (not (empty (lineIn 9 (field L4868 90 form) filed)) || member (field L4868 90 form) (numbersIn (take (p .n) row))))
-      (e-past : next ≡ nextPast form letter p row) (e-row : row' ≡ nextRow form letter p row) where
+      (e-past : next ≡ nextPast own letter p row) (e-row : row' ≡ nextRow own letter p row) where
     e-held : held x found ≡ keptOf list (brokeIn at K)
     e-held = e-found ∙ ap (keptOf list) form-broke
 
@@ -237,15 +245,16 @@ module _ (t taxpayers banks filed states date : Bytes) (at : ℕ) (p : Past) (ro
         ∙ (λ i. letterBy (clean-same t date at p row true Z e ee k found (held-counted list x (brokeIn at K) found e-held) i) (not (empty (lineIn 9 (field L4868 90 (ef i)) filed)) || member (field L4868 90 (ef i)) (numbersIn (take (p .n) row))))
         ∙ (λ i. letterBy (empty (findings K)) (not (empty (sym (searched-filed taxpayers banks filed states (ssnOf (docHere (drop at t)))) i)) || member (ssnOf (docHere (drop at t))) (numbersIn (take (p .n) row))))
 
-    pub form-judged : (record { judgment = record { size = e .size; letter = letter; known = true; found = found; facts = e .facts }; past = next } ≡ judgedOf at (turn date (seenBy p row) (asked (searched taxpayers banks filed states) (docHere (drop at t)))) p row)
+    pub form-judged : (record { judgment = record { size = e .size; letter = letter; known = true; identity = own; found = found; facts = e .facts }; past = next } ≡ judgedOf at (turn date (seenBy p row) (asked (searched taxpayers banks filed states) (docHere (drop at t)))) p row)
         × (row' ≡ rowAfter (turn date (seenBy p row) (asked (searched taxpayers banks filed states) (docHere (drop at t)))) p row)
         × (x ≡ listed list (brokeIn at (turn date (seenBy p row) (asked (searched taxpayers banks filed states) (docHere (drop at t))))))
     form-judged =
-        let q : next ≡ nextPast (docHere (drop at t) .main) letter p row = e-past ∙ ap (λ (f : Bytes). nextPast f letter p row) ef in
-        let w : row' ≡ nextRow (docHere (drop at t) .main) letter p row = e-row ∙ ap (λ (f : Bytes). nextRow f letter p row) ef in (
-          judged-is t date at p row true Z e ee k found letter next row' list x e-held letter-is q w,
-          row-is t date at p row true Z e ee k found letter next row' list x e-held letter-is q w,
-          list-is t date at p row true Z e ee k found letter next row' list x e-held letter-is q w,
+        let o : own ≡ identityOf (docHere (drop at t) .main) = e-own ∙ ap identityOf ef in
+        let q : next ≡ nextPast (identityOf (docHere (drop at t) .main)) letter p row = e-past ∙ ap (λ (y : Identity). nextPast y letter p row) o in
+        let w : row' ≡ nextRow (identityOf (docHere (drop at t) .main)) letter p row = e-row ∙ ap (λ (y : Identity). nextRow y letter p row) o in (
+          judged-is t date at p row true Z e ee k found own letter next row' list x e-held o letter-is q w,
+          row-is t date at p row true Z e ee k found own letter next row' list x e-held o letter-is q w,
+          list-is t date at p row true Z e ee k found own letter next row' list x e-held o letter-is q w,
         )
 
 -- of any other: nothing is looked up, and nothing but the first record is judged
@@ -332,12 +341,12 @@ module _ (t date : Bytes) (at : ℕ) (p : Past) (row : List ℕ) (L : Lines) (e 
           some false z = refl
       by false u = ap (letterBy (empty (findings N))) (sym (ap (λ (m : Bytes). member (field L4868 90 m) (numbersIn (take (p .n) row))) (no-bytes t at k u) ∙ ap (λ (m : Bytes). member m (numbersIn (take (p .n) row))) no-field ∙ member-none (take (p .n) row)))
 
-  pub other-judged : (record { judgment = record { size = e .size; letter = letter; known = false; found = found; facts = e .facts }; past = p } ≡ judgedOf at (turn date (seenBy p row) (asked L (docHere (drop at t)))) p row)
+  pub other-judged : (record { judgment = record { size = e .size; letter = letter; known = false; identity = noIdentity; found = found; facts = e .facts }; past = p } ≡ judgedOf at (turn date (seenBy p row) (asked L (docHere (drop at t)))) p row)
       × (row ≡ rowAfter (turn date (seenBy p row) (asked L (docHere (drop at t)))) p row) × (x ≡ listed list (brokeIn at (turn date (seenBy p row) (asked L (docHere (drop at t))))))
   other-judged = (
-    judged-is t date at p row false L e ee k found letter p row list x other-held other-letter refl refl,
-    row-is t date at p row false L e ee k found letter p row list x other-held other-letter refl refl,
-    list-is t date at p row false L e ee k found letter p row list x other-held other-letter refl refl,
+    judged-is t date at p row false L e ee k found noIdentity letter p row list x other-held refl other-letter refl refl,
+    row-is t date at p row false L e ee k found noIdentity letter p row list x other-held refl other-letter refl refl,
+    list-is t date at p row false L e ee k found noIdentity letter p row list x other-held refl other-letter refl refl,
   )
 
 -- WHAT THE CODE KNOWS OF THE FIRST RECORD

@@ -5,6 +5,7 @@ use mathlib.Core.List.{List, [], _∷_, _++_, map}
 use lib.Dec.{eqb}
 use lib.ListN.{length}
 use Rattle.paper.specs.declared.Facts.{Facts}
+use Rattle.paper.specs.declared.Identity.{Identity}
 use Rattle.paper.specs.declared.Judgment.{Judgment}
 use Rattle.paper.specs.declared.Kind.{Kind}
 use Rattle.paper.specs.declared.Kind.the-variants.{Payment, Auth}
@@ -16,7 +17,7 @@ use Rattle.paper.specs.Walk.{is, kindOf, Doc}
 use Rattle.paper.specs.Conditions.{Sight, View, sight, view, ofKind, factsOf, holds, rulesOf}
 use Rattle.paper.specs.Judge.{Item, Turn, known, letterOf, sightOf}
 use Rattle.words.specs.Sets.{bitsBy}
-use Rattle.words.specs.Past.{earlier}
+use Rattle.words.specs.Past.{identityOf, noIdentity, earlier}
 use Rattle.lookup.specs.Find.{lineIn, rowsIn}
 use Rattle.walk.specs.Parts.{sizes}
 use Rattle.rules.specs.declared.Before.{Before}
@@ -78,12 +79,17 @@ counts b k = record { pays = b .pays + bit (is Payment k); aths = b .aths + bit 
 unfoldable pub brokeIn : ℕ → Turn → List Broke
 brokeIn at t = brokeFrom (sightOf t) at 0 0 (t .subject .items)
 
+-- the numbers of a document's form
+abbrev pub identityIn : Doc → Identity
+identityIn d = cond (known d) (identityOf (d .main)) noIdentity
+
 -- tied to the paper by `total-found`, `auth-found` and `empty-found` of judge/Found
 unfoldable pub judgmentOf : ℕ → Turn → Judgment
 judgmentOf at t = record {
   size = sizes (t .subject .doc .main ∷ t .subject .doc .others);
   letter = letterOf t;
   known = known (t .subject .doc);
+  identity = identityIn (t .subject .doc);
   found = counted (brokeIn at t);
   facts = factsOf (t .subject .doc .main ∷ t .subject .doc .others);
 }

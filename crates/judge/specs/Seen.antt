@@ -1,15 +1,14 @@
 -- What a document sees of the earlier ones, as numbers, and what it leaves for the later ones. Assumes nothing.
-use Prim.Native.Nat.{ℕ, _+_, _%_}
+use Prim.Native.Nat.{ℕ, _+_, _-_, _%_}
 use mathlib.Core.Bool.{cond, _&&_}
 use mathlib.Core.List.{List, map}
-use lib.Dec.{ltb}
+use lib.Dec.{eqb, ltb}
 use lib.ListN.{length, take, set}
-use Rattle.paper.specs.declared.Layout.the-variants.{L4868}
+use Rattle.paper.specs.declared.Identity.{Identity}
 use Rattle.paper.specs.declared.Letter.{Letter}
-use Rattle.paper.specs.Bytes.{Bytes, those, digits, number, written}
-use Rattle.paper.specs.Layouts.{field}
+use Rattle.paper.specs.Bytes.{Bytes, those, written}
 use Rattle.paper.specs.Judge.{Before, known, isA, Turn, letterOf}
-use Rattle.words.specs.Past.{earlier}
+use Rattle.words.specs.Past.{identityOf, earlier}
 use Rattle.judge.specs.declared.Past.{Past}
 
 -- the primary numbers of a row; one that nine digits can't write is none
@@ -24,26 +23,26 @@ seenBy p row = record { dsn = earlier 16 (p .dsn); dcn = earlier 14 (p .dcn); ac
 abbrev pub noPast : Past
 noPast = record { dsn = 0; dcn = 0; n = 0 }
 
--- the nearest number that is digits
-abbrev pub numberAfter : Bytes → ℕ → ℕ
-numberAfter f n = cond (digits f) (number f + 1) n
+-- a number, or the nearest one before it where it is none
+abbrev pub numberAfter : ℕ → ℕ → ℕ
+numberAfter number n = cond (eqb number 0) n number
 
--- what a form leaves, with its letter: its number where it got A and there is room
-unfoldable pub nextPast : Bytes → Letter → Past → List ℕ → Past
-nextPast form l p row = record {
-  dsn = numberAfter (field L4868 7 form) (p .dsn);
-  dcn = numberAfter (field L4868 8 form) (p .dcn);
+-- what a form of these numbers leaves, with its letter: its primary number where it got A and there is room
+unfoldable pub nextPast : Identity → Letter → Past → List ℕ → Past
+nextPast i l p row = record {
+  dsn = numberAfter (i .dsn) (p .dsn);
+  dcn = numberAfter (i .dcn) (p .dcn);
   n = cond (isA l && ltb (p .n) (length row)) (p .n + 1) (p .n);
 }
 
-unfoldable pub nextRow : Bytes → Letter → Past → List ℕ → List ℕ
-nextRow form l p row = cond (isA l && ltb (p .n) (length row)) (set row (p .n) (number (field L4868 90 form) % 4294967296)) row
+unfoldable pub nextRow : Identity → Letter → Past → List ℕ → List ℕ
+nextRow i l p row = cond (isA l && ltb (p .n) (length row)) (set row (p .n) ((i .ssn - 1) % 4294967296)) row
 
 -- after a document's turn; one of an unknown form is passed over
 -- tied to the paper by `leaves` of judge/Seen
 abbrev pub pastAfter : Turn → Past → List ℕ → Past
-pastAfter t p row = cond (known (t .subject .doc)) (nextPast (t .subject .doc .main) (letterOf t) p row) p
+pastAfter t p row = cond (known (t .subject .doc)) (nextPast (identityOf (t .subject .doc .main)) (letterOf t) p row) p
 
 -- tied to the paper by `leaves` of judge/Seen
 abbrev pub rowAfter : Turn → Past → List ℕ → List ℕ
-rowAfter t p row = cond (known (t .subject .doc)) (nextRow (t .subject .doc .main) (letterOf t) p row) row
+rowAfter t p row = cond (known (t .subject .doc)) (nextRow (identityOf (t .subject .doc .main)) (letterOf t) p row) row

@@ -1,5 +1,6 @@
 // One document's judgment: its letter, its findings and its facts; and what it leaves for the later ones to see.
 use paper::Findings;
+use paper::Identity;
 use paper::Judgment;
 use paper::Kind;
 use paper::Layout;
@@ -7,9 +8,9 @@ use paper::Letter;
 use rules::Before;
 use walk::Extent;
 ghost use mathlib.Core.Path.{_≡_};
-ghost use mathlib.Core.Bool.{true, false, not, _||_};
+ghost use mathlib.Core.Bool.{true, false, not, cond, _&&_, _||_};
 ghost use mathlib.Core.List.{[], map};
-ghost use Prim.Native.Nat.{_+_, _≤_, min};
+ghost use Prim.Native.Nat.{_+_, _-_, _≤_, min};
 ghost use lib.Dec.{eqb};
 ghost use lib.ListN.{length, drop, take};
 ghost use Rattle.paper.specs.declared.Kind.the-variants.{Form};
@@ -22,6 +23,7 @@ ghost use Rattle.paper.specs.Judge.{isA, letterBy, turn, asked};
 ghost use Rattle.lookup.specs.Find.{lineIn};
 ghost use Rattle.walk.specs.Parts.{docHere, extentOf};
 ghost use Rattle.judge.specs.Kept.{brokeIf, noFindings, held, keptOf, added, listed};
+ghost use Rattle.words.specs.Past.{identityOf};
 ghost use Rattle.judge.specs.Seen.{numbersIn, seenBy, noPast, numberAfter, nextPast, nextRow, rowAfter};
 ghost use Rattle.judge.specs.Judged.{searched, bankFor, itemIn, brokeFrom, formBroke, brokeIn, counts, judgedOf};
 
@@ -36,6 +38,18 @@ pub struct Past {
 pub struct Judged {
     pub judgment: Judgment,
     pub past: Past,
+}
+
+// The findings of a 4868 document, and the numbers of its form.
+struct Formed {
+    found: Findings,
+    identity: Identity,
+}
+
+fn field_of(n: u32, form: &[u8]) -> &[u8]
+    ensures { λ p. ⌜ now p ≡ field L4868 n (now (form .entry)) ⌝ }
+{
+    layout::field_of(Layout::L4868, n, form)
 }
 
 fn lesser(a: usize, b: usize) -> usize
@@ -112,15 +126,14 @@ fn is_among(key: u32, row: &[u32], n: usize) -> bool
 }
 
 // An earlier document with this primary number got A.
-fn is_accepted(ssn: &[u8], past: Past, row: &[u32]) -> bool
-    requires { ⌜ length (now ssn) ≡ 9 ⌝ }
-    ensures { λ r. ⌜ r ≡ member (now (ssn .entry)) (numbersIn (take (past .n) (now (row .entry)))) ⌝ }
+fn is_accepted(ssn: u64, past: Past, row: &[u32]) -> bool
+    requires { ⌜ ssn ≤ 1000000000 ⌝ }
+    ensures { λ r. ⌜ r ≡ (not (eqb ssn 0) && any (eqb (ssn - 1)) (take (past .n) (now (row .entry)))) ⌝ }
 {
-    if !text::digits(ssn) {
+    if ssn == 0 {
         return false;
     }
-    let key = text::number_of(ssn) as u32;
-    is_among(key, row, lesser(row.len(), past.n))
+    is_among((ssn - 1) as u32, row, lesser(row.len(), past.n))
 }
 
 fn is_a(letter: Letter) -> bool
@@ -133,32 +146,34 @@ fn is_a(letter: Letter) -> bool
     }
 }
 
-// The nearest number that is digits, and 1, after this field.
-fn number_after(f: &[u8], n: u64) -> u64
-    requires { ⌜ length (now f) ≤ 16 ⌝ }
-    ensures { λ r. ⌜ r ≡ numberAfter (now (f .entry)) n ⌝ }
+fn less_1(n: u64) -> u64
+    ensures { λ r. ⌜ r ≡ n - 1 ⌝ }
 {
-    let number = text::number_of(f) + 1;
-    if !text::digits(f) {
+    if n == 0 { 0 } else { n - 1 }
+}
+
+// The nearest number after this one: 0 is none.
+fn number_after(number: u64, n: u64) -> u64
+    ensures { λ r. ⌜ r ≡ numberAfter number n ⌝ }
+{
+    if number == 0 {
         return n;
     }
     number
 }
 
 // What a form leaves for the later documents to see, with its letter.
-fn pass(form: &[u8], letter: Letter, past: Past, row: &mut [u32]) -> Past
-    requires { ⌜ length (now form) ≡ 384 ⌝ }
-    ensures { λ r. ⌜ r ≡ nextPast (now (form .entry)) letter past (now (row .entry)) ⌝ }
-    ensures { λ _. ⌜ now (row .exit) ≡ nextRow (now (form .entry)) letter past (now (row .entry)) ⌝ }
+fn pass(identity: Identity, letter: Letter, past: Past, row: &mut [u32]) -> Past
+    ensures { λ r. ⌜ r ≡ nextPast identity letter past (now (row .entry)) ⌝ }
+    ensures { λ _. ⌜ now (row .exit) ≡ nextRow identity letter past (now (row .entry)) ⌝ }
 {
-    let dsn = number_after(layout::field_of(Layout::L4868, 7, form), past.dsn);
-    let dcn = number_after(layout::field_of(Layout::L4868, 8, form), past.dcn);
+    let dsn = number_after(identity.dsn, past.dsn);
+    let dcn = number_after(identity.dcn, past.dcn);
     let n = past.n;
     if !is_a(letter) | (row.len() <= n) {
         return Past { dsn, dcn, n };
     }
-    let ssn = text::number_of(layout::field_of(Layout::L4868, 90, form));
-    row[n] = (ssn % 4294967296) as u32;
+    row[n] = (less_1(identity.ssn) % 4294967296) as u32;
     Past { dsn, dcn, n: n + 1 }
 }
 
@@ -236,14 +251,15 @@ fn of_form(
     date: &[u8],
     past: Past,
     list: &mut [[usize; 3]; 96],
-) -> Findings
+) -> Formed
     requires { ⌜ (doc ≡ extentOf (drop at (now t))) × (is Form (kindOf (docHere (drop at (now t)) .main)) ≡ true) × (now form ≡ docHere (drop at (now t)) .main) ⌝ }
-    ensures { λ r. ⌜ held (now (list .exit)) r ≡ keptOf (now (list .entry)) (formBroke at (docHere (drop at (now (t .entry)))) (now (taxpayers .entry)) (now (banks .entry)) (now (states .entry)) (now (date .entry)) past (doc .facts)) ⌝ }
+    ensures { λ r. ⌜ r .identity ≡ identityOf (now (form .entry)) ⌝ }
+    ensures { λ r. ⌜ held (now (list .exit)) (r .found) ≡ keptOf (now (list .entry)) (formBroke at (docHere (drop at (now (t .entry)))) (now (taxpayers .entry)) (now (banks .entry)) (now (states .entry)) (now (date .entry)) past (doc .facts)) ⌝ }
 {
-    let payer = lookup::line_of(taxpayers, 33, layout::field_of(Layout::L4868, 90, form));
-    let spouse = lookup::line_of(taxpayers, 33, layout::field_of(Layout::L4868, 100, form));
-    let zips = lookup::rows_of(states, 8, layout::field_of(Layout::L4868, 60, form));
-    let set = form::broken(
+    let payer = lookup::line_of(taxpayers, 33, field_of(90, form));
+    let spouse = lookup::line_of(taxpayers, 33, field_of(100, form));
+    let zips = lookup::rows_of(states, 8, field_of(60, form));
+    let reading = form::broken(
         form,
         payer,
         spouse,
@@ -253,8 +269,10 @@ fn of_form(
         date,
         doc.facts,
     );
-    let first = collected(no_findings(), at, Kind::Form, set, list);
-    with_others(t, at, doc, form, payer, spouse, banks, first, list)
+    let identity = reading.identity;
+    let first = collected(no_findings(), at, Kind::Form, reading.set, list);
+    let found = with_others(t, at, doc, form, payer, spouse, banks, first, list);
+    Formed { found, identity }
 }
 
 // The first record of any other document: an unknown form breaks its one rule.
@@ -276,18 +294,24 @@ fn letter_by(rows: usize) -> Letter
     Letter::A
 }
 
-fn letter_of(rows: usize, filed: &[u8], form: &[u8], past: Past, row: &[u32]) -> Letter
-    requires { ⌜ length (now form) ≡ 384 ⌝ }
+fn letter_of(
+    rows: usize,
+    identity: Identity,
+    filed: &[u8],
+    form: &[u8],
+    past: Past,
+    row: &[u32],
+) -> Letter
+    requires { ⌜ (identity ≡ identityOf (now form)) × (length (now form) ≡ 384) ⌝ }
     ensures { λ r. ⌜ r ≡ letterBy (eqb rows 0) (not (empty (lineIn 9 (field L4868 90 (now (form .entry))) (now (filed .entry)))) || member (field L4868 90 (now (form .entry))) (numbersIn (take (past .n) (now (row .entry))))) ⌝ }
 {
     if 0 < rows {
         return Letter::R;
     }
-    let ssn = layout::field_of(Layout::L4868, 90, form);
-    if 0 < lookup::line_of(filed, 9, ssn).len() {
+    if 0 < lookup::line_of(filed, 9, field_of(90, form)).len() {
         return Letter::D;
     }
-    if is_accepted(ssn, past, row) {
+    if is_accepted(identity.ssn, past, row) {
         return Letter::D;
     }
     Letter::A
@@ -323,6 +347,7 @@ pub fn judge(
                 size,
                 letter,
                 known: false,
+                identity: paper::NO_IDENTITY,
                 found,
                 facts,
             },
@@ -331,14 +356,29 @@ pub fn judge(
     }
     let end = at + first.size;
     let form = &t[at..end];
-    let found = of_form(t, at, doc, form, taxpayers, banks, states, date, past, list);
-    let letter = letter_of(found.rows, filed, form, past, row);
-    let next = pass(form, letter, past, row);
+    let whole = Extent { first, size, facts };
+    let formed = of_form(
+        t,
+        at,
+        whole,
+        form,
+        taxpayers,
+        banks,
+        states,
+        date,
+        past,
+        list,
+    );
+    let found = formed.found;
+    let identity = formed.identity;
+    let letter = letter_of(found.rows, identity, filed, form, past, row);
+    let next = pass(identity, letter, past, row);
     Judged {
         judgment: Judgment {
             size,
             letter,
             known: true,
+            identity,
             found,
             facts,
         },

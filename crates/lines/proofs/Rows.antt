@@ -1,18 +1,19 @@
 -- Lines of one width, read from the front by a loop.
 -- Assumes nothing.
 use mathlib.Core.Path.{_≡_, refl, sym, ap, _∙_}
-use mathlib.Core.Bool.{Bool, true, false, _&&_, _||_, not, cond}
+use mathlib.Core.Bool.{Bool, true, false, _&&_, _||_, not, cond, and-true}
 use mathlib.Core.List.{[], _∷_}
 use Prim.Native.Nat.{ℕ, zero, suc, _+_, _-_, _*_, _/_, _%_, _≤_, _<_}
 use native.Mathlib.Nat.{suc-mul, not-suc-le-zero, div-add-mod'}
 use native.Mathlib.Numerals.{sub-one}
 use native.Mathlib.Omega.{arith}
 use lib.Dec.{eqb, ltb}
-use lib.ListN.{length, take, drop, length-drop}
+use lib.ListN.{length, getD, take, drop, length-drop}
 use lib.Seq.{drop-drop, take-all, length-take-le}
 use borrow.Author.Tests.{eq-eqb, ne-eqb, not-true, not-false}
-use Rattle.paper.specs.Bytes.{Bytes, any, digits, part}
-use Rattle.paper.specs.Pack.{widthOf, riseOf, taxpayerLine, bankLine, stateLine, goodLine, rows, linesIn, goodBody}
+use Rattle.paper.specs.Bytes.{Bytes, every, any, digits, part}
+use Rattle.paper.specs.Pack.{widthOf, riseOf, yesNo, taxpayerLine, bankLine, stateLine, goodLine, rows, linesIn, goodBody}
+use Rattle.paper.proofs.Laws.{take-next}
 use Rattle.text.specs.Words.{high}
 use Rattle.text.proofs.Laws.{piece-whole}
 use Rattle.lines.specs.Body.{goodRows, rankOf, climbs}
@@ -124,10 +125,13 @@ module _ (k w r : ℕ) (p : Bytes → Bool) (of : Kind k w r p) (l : Bytes) (f :
   pub long-enough : w ≤ length l
   long-enough = omega (arith, f, of .width)
 
-  module _ (x : Bool) (z : ℕ) (e : x ≡ p (take w l)) where
-    whole : take w l ≡ l
-    whole = take-all w l (omega (arith, f, of .width))
+  whole : take w l ≡ l
+  whole = take-all w l (omega (arith, f, of .width))
 
+  pub cut-wide : length (take w l) ≡ w
+  cut-wide = ap length whole ∙ f ∙ of .width
+
+  module _ (x : Bool) (z : ℕ) (e : x ≡ p (take w l)) where
     pub rank-told : z ≡ cond x (high 16 (take r l)) 0 → z ≡ rankOf k l
     unfolding rankOf
     rank-told q =
@@ -138,7 +142,11 @@ module _ (k w r : ℕ) (p : Bytes → Bool) (of : Kind k w r p) (l : Bytes) (f :
     pub rank-cut : (t : Bytes) → t ≡ part 0 r (take w l) → z ≡ cond x (high 16 t) 0 → z ≡ rankOf k l
     rank-cut t d q = rank-told (q ∙ ap (λ (u : Bytes). cond x (high 16 u) 0) (d ∙ ap (take r) whole))
 
-pub ruleset kinds = (kind-1, kind-2, kind-3, kind-4, long-enough, rank-told, rank-cut)
+pub ruleset kinds = (kind-1, kind-2, kind-3, kind-4, long-enough, cut-wide, rank-told, rank-cut)
+
+-- the last byte of a bank's line
+pub yes-no-last : (l : Bytes) → length l ≡ 10 → every yesNo (part 9 1 l) ≡ yesNo (getD l 9 0)
+yes-no-last l h = ap (every yesNo) (take-next 0 9 l (omega (arith, h))) ∙ and-true (yesNo (getD l 9 0))
 
 -- the tests on a block's lines; w is the width
 module _ (k w : ℕ) (b : Bytes) (e : w ≡ widthOf k) where

@@ -1,4 +1,7 @@
 // The rules of a payment: which of them a record breaks.
+use kinds::DIGIT;
+use kinds::all_of;
+use kinds::present_but_not;
 use paper::Layout;
 ghost use mathlib.Core.Path.{_≡_};
 ghost use mathlib.Core.Bool.{cond, _&&_};
@@ -6,8 +9,10 @@ ghost use mathlib.Core.List.{[], _∷_};
 ghost use lib.Dec.{eqb};
 ghost use lib.ListN.{length, getD};
 ghost use Rattle.paper.specs.declared.Layout.the-variants.{L4868, LPayment};
+ghost use Rattle.paper.specs.Bytes.{digits};
 ghost use Rattle.paper.specs.Layouts.{field};
 ghost use Rattle.paper.specs.Conditions.{runs, wrongPayment, otherSpouse, wrongBank, taxType, paymentRules};
+ghost use Rattle.kinds.specs.Kinds.{table};
 ghost use Rattle.text.specs.Words.{little};
 ghost use Rattle.words.specs.Sets.{bitsOn, bitsBy};
 ghost use Rattle.words.specs.Tables.{ruleText};
@@ -51,10 +56,11 @@ fn other_spouse(f: &[u8], spouse: &[u8]) -> bool
 }
 
 // 0396 at 0030: not digits, first two not 01-12 or 21-32, or no Y line.
-fn wrong_bank(f: &[u8], bank: &[u8]) -> bool
+fn wrong_bank(is_digits: bool, f: &[u8], bank: &[u8]) -> bool
+    requires { ⌜ «is_digits» ≡ digits (now f) ⌝ }
     ensures { λ r. ⌜ r ≡ wrongBank (now (f .entry)) (now (bank .entry)) ⌝ }
 {
-    !field::routing(f) | !text::is_same(text::piece(bank, 9, 1), b"Y")
+    !(is_digits & field::district(f)) | !text::is_same(text::piece(bank, 9, 1), b"Y")
 }
 
 fn tax_type(f: &[u8]) -> bool
@@ -64,15 +70,17 @@ fn tax_type(f: &[u8]) -> bool
 }
 
 // The rules on the head, 0010 and 0020, before later ones.
-fn of_payer(form: &[u8], own: &[u8], before: usize, later: u64) -> u64
+fn of_payer(kinds: &[u8; 256], form: &[u8], own: &[u8], before: usize, later: u64) -> u64
+    requires { ⌜ now kinds ≡ table ⌝ }
     ensures { λ r. ⌜ r ≡ bitsOn (breaks (now (form .entry)) (now (own .entry)) [] before) (44 ∷ 45 ∷ 30004 ∷ 100010 ∷ 100395 ∷ 200010 ∷ 200395 ∷ []) later ⌝ }
 {
     let set = words::and_rule(other_spouse(field_of(20, own), of_form(100, form)), later);
-    let set = words::and_rule(words::not_digits(field_of(20, own)), set);
+    let set = words::and_rule(present_but_not(kinds, DIGIT, field_of(20, own)), set);
     let set = words::and_rule(!text::is_same(field_of(10, own), of_form(90, form)), set);
-    let set = words::and_rule(!text::digits(field_of(10, own)), set);
+    let set = words::and_rule(!all_of(kinds, DIGIT, field_of(10, own)), set);
+    let number = field_of(3, own);
     let set = words::and_rule(
-        words::other_number(field_of(3, own), of_form(90, form)),
+        words::other_number(all_of(kinds, DIGIT, number), number, of_form(90, form)),
         set,
     );
     let set = words::and_rule(wrong_payment(own, before), set);
@@ -80,16 +88,26 @@ fn of_payer(form: &[u8], own: &[u8], before: usize, later: u64) -> u64
 }
 
 // The rules on 0030 to 0090, before later ones.
-fn of_money(own: &[u8], bank: &[u8], later: u64) -> u64
+fn of_money(kinds: &[u8; 256], own: &[u8], bank: &[u8], later: u64) -> u64
+    requires { ⌜ now kinds ≡ table ⌝ }
     ensures { λ r. ⌜ r ≡ bitsOn (breaks [] (now (own .entry)) (now (bank .entry)) 0) (300396 ∷ 400396 ∷ 500396 ∷ 600010 ∷ 700010 ∷ 800397 ∷ 900010 ∷ []) later ⌝ }
 {
-    let set = words::and_rule(words::not_digits(field_of(90, own)), later);
-    let set = words::and_rule(words::wrong_pay_date(field_of(80, own)), set);
+    let day = field_of(80, own);
+    let amount = field_of(60, own);
+    let routing = field_of(30, own);
+    let set = words::and_rule(present_but_not(kinds, DIGIT, field_of(90, own)), later);
+    let set = words::and_rule(words::wrong_pay_date(all_of(kinds, DIGIT, day), day), set);
     let set = words::and_rule(!tax_type(field_of(70, own)), set);
-    let set = words::and_rule(words::not_positive(field_of(60, own)), set);
+    let set = words::and_rule(
+        words::not_positive(!all_of(kinds, DIGIT, amount), amount),
+        set,
+    );
     let set = words::and_rule(!words::one_of(b"12", field_of(50, own)), set);
     let set = words::and_rule(!field::account(field_of(40, own)), set);
-    words::and_rule(wrong_bank(field_of(30, own), bank), set)
+    words::and_rule(
+        wrong_bank(all_of(kinds, DIGIT, routing), routing, bank),
+        set,
+    )
 }
 
 // The set of the rules that a payment breaks, after so many payments of the document; bank is the line of 0030.
@@ -102,7 +120,8 @@ pub fn broken(form: &[u8], own: &[u8], bank: &[u8], before: usize) -> u64
     if own.len() != 123 {
         return 0;
     }
-    of_payer(form, own, before, of_money(own, bank, 0))
+    let kinds = kinds::table();
+    of_payer(&kinds, form, own, before, of_money(&kinds, own, bank, 0))
 }
 
 // The text of the rule at a place of the table, its field and its code: eight bytes, the first one lowest.

@@ -1,21 +1,25 @@
 -- A record set is its Key and its Error records, and its length; what is left of bytes from a place on. Assumes nothing.
 use mathlib.Core.Path.{_≡_, refl, sym, ap, _∙_}
 use Prim.Native.Nat.{ℕ, _+_, _-_, _*_, _≤_}
-use mathlib.Core.Bool.{Bool, true, false, cond, _&&_}
+use mathlib.Core.Bool.{Bool, true, false, not, cond, _&&_}
 use mathlib.Core.List.{List, [], _∷_, _++_}
 use lib.ListN.{length, take, drop, length-append, length-drop}
 use lib.Seq.{take-all}
 use native.Mathlib.Omega.{arith}
 use Rattle.paper.proofs.Laws.{ended}
 use Rattle.paper.specs.declared.Facts.{Facts}
+use Rattle.paper.specs.declared.Identity.{Identity}
 use Rattle.paper.specs.declared.Letter.{Letter}
 use Rattle.paper.specs.declared.Layout.the-variants.{L4868}
-use Rattle.paper.specs.Bytes.{Bytes}
+use Rattle.paper.specs.Bytes.{Bytes, digits, zeros}
 use Rattle.paper.specs.Judge.{Finding}
 use Rattle.paper.specs.Layouts.{field}
-use Rattle.paper.specs.File.{orZeros, errorOf, errorsFrom, setBy}
+use Rattle.paper.specs.declared.Verdict.the-variants.{Judged}
+use Rattle.paper.specs.File.{keyRecord, orZeros, pinByte, dateFor, literalFor, errorOf, errorsFrom, setBy}
 use Rattle.paper.proofs.RecordSizes.{length-key, length-error}
-use Rattle.recordset.specs.Key.{keyOf}
+use Rattle.words.specs.Past.{numberIf, identityOf, noIdentity}
+use Rattle.words.proofs.Digits.{none-number}
+use Rattle.recordset.specs.Key.{shownAs, keyOf}
 
 -- one text if both hold
 pub if-both : (a b : Bool) (x y q r : Bytes) → q ≡ cond a x y → r ≡ cond b q y → r ≡ cond (a && b) x y
@@ -24,16 +28,53 @@ if-both true false x y q r e f = f
 if-both false true x y q r e f = f ∙ e
 if-both false false x y q r e f = f
 
-pub set-parts : (main : Bytes) (known : Bool) (date : Bytes) (l : Letter) (f : Facts) (found : List Finding) (athFound : Bool)
-    → setBy main known date l f found athFound
-    ≡ keyOf main known date l f (length found) athFound ++ errorsFrom (orZeros known 9 (field L4868 90 main)) 1 found
-unfolding setBy keyOf
-set-parts main known date l f found athFound = refl
+-- a field is shown where the form is known and it is digits
+pub shown-said : (known : Bool) (n : ℕ) (f : Bytes) → shownAs (cond known (numberIf f) 0) n f ≡ orZeros known n f
+unfolding orZeros
+shown-said true n f = ap (λ (b : Bool). cond b (zeros n) f) (none-number f) ∙ by (digits f)
+  where
+    by : (d : Bool) → cond (not d) (zeros n) f ≡ cond d f (zeros n)
+    by true = refl
+    by false = refl
+shown-said false n f = refl
 
-pub length-keyOf : (main : Bytes) (known : Bool) (date : Bytes) (l : Letter) (f : Facts) (errors : ℕ) (athFound : Bool)
-    → length (keyOf main known date l f errors athFound) ≡ 120
+-- of a form whose numbers are these
+module _ (main : Bytes) (known : Bool) (x : Identity) (e : x ≡ cond known (identityOf main) noIdentity) where
+  numbers-are : x ≡ record {
+    ssn = cond known (numberIf (field L4868 90 main)) 0;
+    dsn = cond known (numberIf (field L4868 7 main)) 0;
+    dcn = cond known (numberIf (field L4868 8 main)) 0;
+  }
+  unfolding identityOf
+  numbers-are = e ∙ by known
+    where
+      by : (b : Bool) → cond b (identityOf main) noIdentity ≡ record {
+        ssn = cond b (numberIf (field L4868 90 main)) 0;
+        dsn = cond b (numberIf (field L4868 7 main)) 0;
+        dcn = cond b (numberIf (field L4868 8 main)) 0;
+      }
+      by true = refl
+      by false = refl
+
+  pub ssn-said : shownAs (x .ssn) 9 (field L4868 90 main) ≡ orZeros known 9 (field L4868 90 main)
+  ssn-said = ap (λ (y : Identity). shownAs (y .ssn) 9 (field L4868 90 main)) numbers-are ∙ shown-said known 9 (field L4868 90 main)
+
+  dsn-said : shownAs (x .dsn) 16 (field L4868 7 main) ≡ orZeros known 16 (field L4868 7 main)
+  dsn-said = ap (λ (y : Identity). shownAs (y .dsn) 16 (field L4868 7 main)) numbers-are ∙ shown-said known 16 (field L4868 7 main)
+
+  dcn-said : shownAs (x .dcn) 14 (field L4868 8 main) ≡ orZeros known 14 (field L4868 8 main)
+  dcn-said = ap (λ (y : Identity). shownAs (y .dcn) 14 (field L4868 8 main)) numbers-are ∙ shown-said known 14 (field L4868 8 main)
+
+  pub set-parts : (date : Bytes) (l : Letter) (f : Facts) (found : List Finding) (athFound : Bool)
+      → keyOf main known x date l f (length found) athFound ++ errorsFrom (shownAs (x .ssn) 9 (field L4868 90 main)) 1 found ≡ setBy main known date l f found athFound
+  unfolding setBy keyOf
+  set-parts date l f found athFound = λ i.
+      keyRecord (ssn-said i) (dsn-said i) (Judged l) (pinByte known athFound f) (dateFor l date) (dcn-said i) (length found) (literalFor l f) ++ errorsFrom (ssn-said i) 1 found
+
+pub length-keyOf : (main : Bytes) (known : Bool) (x : Identity) (date : Bytes) (l : Letter) (f : Facts) (errors : ℕ) (athFound : Bool)
+    → length (keyOf main known x date l f errors athFound) ≡ 120
 unfolding keyOf
-length-keyOf main known date l f errors athFound = length-key _ _ _ _ _ _ _ _
+length-keyOf main known x date l f errors athFound = length-key _ _ _ _ _ _ _ _
 
 pub length-errorOf : (ssn : Bytes) (n : ℕ) (x : Finding) → length (errorOf ssn n x) ≡ 120
 unfolding errorOf
@@ -48,11 +89,12 @@ length-errorsFrom ssn n (x ∷ xs) =
 -- 120 bytes for the Key and for each finding
 pub length-setBy : (main : Bytes) (known : Bool) (date : Bytes) (l : Letter) (f : Facts) (found : List Finding) (athFound : Bool)
     → length (setBy main known date l f found athFound) ≡ 120 + 120 * length found
+unfolding setBy
 length-setBy main known date l f found athFound =
-    ap length (set-parts main known date l f found athFound)
-    ∙ length-append (keyOf main known date l f (length found) athFound) (errorsFrom (orZeros known 9 (field L4868 90 main)) 1 found)
-    ∙ omega
-    (arith, length-keyOf main known date l f (length found) athFound, length-errorsFrom (orZeros known 9 (field L4868 90 main)) 1 found)
+    let ssn = orZeros known 9 (field L4868 90 main) in
+    let key = keyRecord ssn (orZeros known 16 (field L4868 7 main)) (Judged l) (pinByte known athFound f) (dateFor l date) (orZeros known 14 (field L4868 8 main)) (length found) (literalFor l f) in
+    let keyed : length key ≡ 120 = length-key _ _ _ _ _ _ _ _ in
+    length-append key (errorsFrom ssn 1 found) ∙ omega (arith, keyed, length-errorsFrom ssn 1 found)
 
 -- WHAT IS LEFT OF BYTES FROM A PLACE ON
 

@@ -1,5 +1,6 @@
 // A document's ACK Key, and what its ACK Error records show of a record.
 use paper::Facts;
+use paper::Identity;
 use paper::Kind;
 use paper::Layout;
 use paper::Letter;
@@ -7,7 +8,7 @@ use paper::Verdict;
 use record::Marks;
 ghost use mathlib.Core.Path.{_≡_};
 ghost use mathlib.Core.Bool.{cond, _&&_, _||_};
-ghost use lib.Dec.{ltb};
+ghost use lib.Dec.{eqb, ltb};
 ghost use lib.ListN.{drop};
 ghost use Rattle.paper.specs.Bytes.{digits};
 ghost use Rattle.paper.specs.Layouts.{field};
@@ -43,15 +44,14 @@ fn pin_byte(known: bool, ath_found: bool, facts: Facts) -> u8
     if pin == b'O' { b'3' } else { b' ' }
 }
 
-// A field of the opening record if the form is known and the field is digits, else the zeros.
-pub fn shown<'a>(known: bool, main: &'a [u8], number: u32, zeros: &'a [u8]) -> &'a [u8]
-    ensures { λ r. ⌜ now r ≡ cond (known && digits (field Layout.L4868 number (now (main .entry)))) (field Layout.L4868 number (now (main .entry))) (now (zeros .entry)) ⌝ }
+// A field of the opening record that holds this number, or the zeros where it is none.
+pub fn shown<'a>(number: u64, main: &'a [u8], n: u32, zeros: &'a [u8]) -> &'a [u8]
+    ensures { λ r. ⌜ now r ≡ cond (eqb number 0) (now (zeros .entry)) (field Layout.L4868 n (now (main .entry))) ⌝ }
 {
-    if known {
-        let f = layout::field_of(Layout::L4868, number, main);
-        return pick(text::digits(f), f, zeros);
+    if number == 0 {
+        return zeros;
     }
-    zeros
+    layout::field_of(Layout::L4868, n, main)
 }
 
 // The text for a document that is accepted, else the other.
@@ -77,17 +77,18 @@ pub fn put_set_key(
     out: &mut [u8],
     main: &[u8],
     known: bool,
+    identity: Identity,
     date: &[u8],
     letter: Letter,
     facts: Facts,
     errors: u32,
     ath_found: bool,
 )
-    ensures { λ _. ⌜ now (out .exit) ≡ placed (now (out .entry)) 0 (keyOf (now (main .entry)) known (now (date .entry)) letter facts errors «ath_found») ⌝ }
+    ensures { λ _. ⌜ now (out .exit) ≡ placed (now (out .entry)) 0 (keyOf (now (main .entry)) known identity (now (date .entry)) letter facts errors «ath_found») ⌝ }
 {
-    let ssn = shown(known, main, 90, b"000000000");
-    let sequence = shown(known, main, 7, b"0000000000000000");
-    let control = shown(known, main, 8, b"00000000000000");
+    let ssn = shown(identity.ssn, main, 90, b"000000000");
+    let sequence = shown(identity.dsn, main, 7, b"0000000000000000");
+    let control = shown(identity.dcn, main, 8, b"00000000000000");
     let day = if_accepted(letter, date, b"00000000");
     let literal = if_paid(letter, facts, b"PYMNT RQST RECD", b"               ");
     let marks = Marks {
@@ -118,7 +119,7 @@ pub fn occurrence_at<'a>(kind: Kind, r: &'a [u8], first: &'a [u8]) -> &'a [u8]
 {
     if walk::is_payment(kind) | walk::is_auth(kind) {
         let f = layout::field_of(Layout::LPayment, 5, r);
-        return pick(text::digits(f), f, first);
+        return pick(kinds::digits(f), f, first);
     }
     first
 }

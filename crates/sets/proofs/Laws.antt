@@ -14,11 +14,12 @@ use lib.Seq.{drop-drop}
 use Prim.{tt}
 use Rattle.text.proofs.Laying.{laid-append}
 use Rattle.text.specs.Words.{little}
+use Rattle.words.specs.Past.{identityOf, noIdentity}
 use Rattle.words.specs.Tables.{ruleText}
 use Rattle.rules.specs.Sets.{chosen}
 use Rattle.record.specs.Parts.{errorModel, errorBy, placed}
 use Rattle.record.proofs.Laws.{error-said}
-use Rattle.recordset.specs.Key.{keyOf}
+use Rattle.recordset.specs.Key.{shownAs, keyOf}
 use Rattle.recordset.proofs.Laws.{length-errorsFrom, length-keyOf, set-parts}
 use Rattle.sets.specs.Set.{kindAt, foundIn, foundFrom, firsts, setAs}
 use Rattle.paper.specs.declared.Judgment.{Judgment}
@@ -30,7 +31,7 @@ use Rattle.paper.specs.Conditions.{formRules, paymentRules, authRules, summaryR
 use Rattle.paper.specs.Judge.{Finding, mark, typeAt, occurrenceAt}
 use Rattle.paper.specs.Layouts.{field}
 use Rattle.paper.specs.Walk.{kindNumber}
-use Rattle.paper.specs.File.{errorRecord, errorOf, errorsFrom, orZeros, setBy}
+use Rattle.paper.specs.File.{errorRecord, errorOf, errorsFrom, setBy}
 use Rattle.paper.proofs.Laws.{both, never}
 use Rattle.paper.proofs.RecordSizes.{length-laid}
 
@@ -319,32 +320,33 @@ module _ (main t date : Bytes) (j : Judgment) (list : List (List ℕ)) (out : By
       ap (λ (b : Bool). cond b (laid out 0 (setAs main t date j list)) out) (sym (lt-leb _ _ f))
 
   pub set-laid : (ssn o o' : Bytes) → m ≡ min 96 (j .found .rows) → 120 + 120 * n ≤ length out
-      → ssn ≡ cond (j .known && digits (field L4868 90 main)) (field L4868 90 main) (bytes "000000000")
-      → o ≡ placed out 0 (keyOf main (j .known) date (j .letter) (j .facts) n (j .found .ath))
+      → ssn ≡ cond (eqb (j .identity .ssn) 0) (bytes "000000000") (field L4868 90 main)
+      → o ≡ placed out 0 (keyOf main (j .known) (j .identity) date (j .letter) (j .facts) n (j .found .ath))
       → o' ≡ laid o 120 (errorsFrom ssn 1 (take (n + 1 - 1) (foundFrom t (firsts m list))))
       → o' ≡ cond (leb (120 + 120 * min 96 (j .found .kept)) (length out)) (laid out 0 (setAs main t date j list)) out
-  unfolding setAs orZeros placed
+  unfolding setAs placed
   set-laid ssn o o' em h es ek eo =
       let a = min 96 (j .found .kept) in
       let f : 120 + 120 * a ≤ length out = omega arith in
       let f' : 0 + 120 ≤ length out = omega arith in
-      let key = keyOf main (j .known) date (j .letter) (j .facts) a (j .found .ath) in
+      let key = keyOf main (j .known) (j .identity) date (j .letter) (j .facts) a (j .found .ath) in
       let xs = take a (foundFrom t (firsts (min 96 (j .found .rows)) list)) in
-      let s = orZeros (j .known) 9 (field L4868 90 main) in
+      let s = shownAs (j .identity .ssn) 9 (field L4868 90 main) in
       let less : n + 1 - 1 ≡ a = omega arith in
       let e : o ≡ laid out 0 key =
-      ek ∙ ap (λ (b : Bool). cond b (laid out 0 (keyOf main (j .known) date (j .letter) (j .facts) n (j .found .ath))) out) (le-leb _ _ f')
-      ∙ ap (λ (q : ℕ). laid out 0 (keyOf main (j .known) date (j .letter) (j .facts) q (j .found .ath))) en in
-      let l : 120 ≡ 0 + length key = omega (arith, length-keyOf main (j .known) date (j .letter) (j .facts) a (j .found .ath)) in
+      ek ∙ ap (λ (b : Bool). cond b (laid out 0 (keyOf main (j .known) (j .identity) date (j .letter) (j .facts) n (j .found .ath))) out) (le-leb _ _ f')
+      ∙ ap (λ (q : ℕ). laid out 0 (keyOf main (j .known) (j .identity) date (j .letter) (j .facts) q (j .found .ath))) en in
+      let l : 120 ≡ 0 + length key = omega (arith, length-keyOf main (j .known) (j .identity) date (j .letter) (j .facts) a (j .found .ath)) in
       eo ∙ (λ i. laid (e i) (l i) (errorsFrom (es i) 1 (take (less i) (foundFrom t (firsts (em i) list)))))
       ∙ laid-append key (errorsFrom s 1 xs) out 0
       ∙ ap (λ (b : Bool). cond b (laid out 0 (setAs main t date j list)) out) (sym (le-leb _ _ f))
 
--- the set is the paper's, where the rows have the findings that are written
+-- the set is the paper's, where the numbers are the form's and the rows have the findings that are written
 pub set-said : (main t date : Bytes) (j : Judgment) (list : List (List ℕ)) (found : List Finding)
+    → j .identity ≡ cond (j .known) (identityOf main) noIdentity
     → take (min 96 (j .found .kept)) (foundFrom t (firsts (min 96 (j .found .rows)) list)) ≡ found → length found ≡ min 96 (j .found .kept)
     → setAs main t date j list ≡ setBy main (j .known) date (j .letter) (j .facts) found (j .found .ath)
 unfolding setAs
-set-said main t date j list found e l =
-    (λ i. keyOf main (j .known) date (j .letter) (j .facts) (sym l i) (j .found .ath) ++ errorsFrom (orZeros (j .known) 9 (field L4868 90 main)) 1 (e i))
-    ∙ sym (set-parts main (j .known) date (j .letter) (j .facts) found (j .found .ath))
+set-said main t date j list found own e l =
+    (λ i. keyOf main (j .known) (j .identity) date (j .letter) (j .facts) (sym l i) (j .found .ath) ++ errorsFrom (shownAs (j .identity .ssn) 9 (field L4868 90 main)) 1 (e i))
+    ∙ set-parts main (j .known) (j .identity) own date (j .letter) (j .facts) found (j .found .ath)

@@ -12,9 +12,9 @@ use Rattle.paper.specs.Bytes.{Bytes, joined}
 use Rattle.paper.specs.Conditions.{rulesOf}
 use Rattle.paper.specs.Judge.{Finding, mark}
 use Rattle.paper.specs.Layouts.{field}
-use Rattle.paper.specs.File.{orZeros, errorsFrom}
+use Rattle.paper.specs.File.{errorsFrom}
 use Rattle.rules.specs.Sets.{chosen}
-use Rattle.recordset.specs.Key.{keyOf}
+use Rattle.recordset.specs.Key.{shownAs, keyOf}
 
 -- the kind of a number
 unfoldable pub kindAt : ℕ → Kind
@@ -44,6 +44,6 @@ firsts (suc n) row = getD row 0 [] ∷ firsts n (drop 1 row)
 -- tied to the paper by `set-said` of sets/Laws
 unfoldable pub setAs : Bytes → Bytes → Bytes → Judgment → List (List ℕ) → Bytes
 setAs main t date j list =
-    keyOf main (j .known) date (j .letter) (j .facts) (min 96 (j .found .kept)) (j .found .ath)
-    ++ errorsFrom (orZeros (j .known) 9 (field L4868 90 main)) 1
+    keyOf main (j .known) (j .identity) date (j .letter) (j .facts) (min 96 (j .found .kept)) (j .found .ath)
+    ++ errorsFrom (shownAs (j .identity .ssn) 9 (field L4868 90 main)) 1
     (take (min 96 (j .found .kept)) (foundFrom t (firsts (min 96 (j .found .rows)) list)))

@@ -116,16 +116,18 @@ pub fn put_set(
     let found = j.found;
     let facts = j.facts;
     let letter = j.letter;
+    let identity = j.identity;
     let errors = at_most_96(found.kept);
     let rows = at_most_96(found.rows);
     if out.len() < 120 + 120 * errors {
         return;
     }
-    let ssn = recordset::shown(j.known, main, 90, b"000000000");
+    let ssn = recordset::shown(identity.ssn, main, 90, b"000000000");
     recordset::put_set_key(
         out,
         main,
         j.known,
+        identity,
         date,
         letter,
         facts,

@@ -1,7 +1,7 @@
--- The fields in reserve, where the bytes that hold them are blank: none of their rules is broken.
+-- The fields in reserve, where the bytes that hold them are blank: none of their rules is broken. A time by its digits.
 -- Assumes nothing.
 use Prim.Native.Nat.{ℕ, zero, suc, _+_, _*_, _/_, _%_, _^_, _≤_, _<_}
-use mathlib.Core.Bool.{Bool, true, false, _&&_}
+use mathlib.Core.Bool.{Bool, true, false, not, _&&_, _||_, and-assoc}
 use mathlib.Core.List.{List, [], _∷_}
 use mathlib.Core.Path.{_≡_, refl, sym, ap, _∙_}
 use native.Mathlib.Nat.{mul-assoc, mul-mod-left, mod-eq-of-lt, pow-suc}
@@ -12,11 +12,13 @@ use lib.Pow.{mod-pow-add, mod-mod-pow, shl-shr}
 use lib.Seq.{take-nil, drop-nil}
 use borrow.Author.Tests.{eqb-true, leb-true}
 use Rattle.paper.specs.declared.Layout.the-variants.{LSummary}
-use Rattle.paper.specs.Bytes.{Bytes, every, part, isSpace, blank}
+use Rattle.paper.specs.Bytes.{Bytes, every, part, isSpace, blank, present, digits, number}
+use Rattle.paper.specs.Fields.{hhmm}
 use Rattle.paper.specs.Layouts.{entry, field, through, summary}
-use Rattle.paper.specs.Conditions.{summaryHolds, summaryRules, pick}
+use Rattle.paper.specs.Conditions.{notTime, summaryHolds, summaryRules, pick}
 use Rattle.paper.proofs.Laws.{both}
 use Rattle.words.specs.Sets.{bitOn, bitsOn}
+use Rattle.words.proofs.Told.{not-both}
 
 -- what every byte of a part passes, every byte of a part of it does
 part-every : (p : ℕ → Bool) (a w b v : ℕ) (s : Bytes) → a ≤ b → b + v ≤ a + w → every p (part a w s) ≡ true → every p (part b v s) ≡ true
@@ -81,3 +83,13 @@ unfolding summaryRules entry summary
 reserves-kept own t set later u h l e =
     sym (bits-kept (breaks own) inside (inside-kept own (rw (← stretch own, ← u) h)) (take 21 (drop 14 summaryRules)) 43 set refl l refl)
     ∙ ap (bitsOn (breaks own) (take 21 (drop 14 summaryRules))) e
+
+-- a time that is present; n says whether it is not digits
+pub time-told : (f : Bytes) (b n : Bool) → b ≡ blank f → b ≡ false → n ≡ (present f && not (digits f)) → (n || not (leb (number (take 2 f)) 23 && leb (number (part 2 2 f)) 59)) ≡ notTime f
+unfolding notTime hhmm
+time-told f b n e h g =
+    let p : present f ≡ true = ap not (sym e ∙ h) in
+    let a = leb (number (take 2 f)) 23 in
+    let c = leb (number (part 2 2 f)) 59 in
+    ap (λ (x : Bool). x || not (a && c)) (g ∙ ap (λ (x : Bool). x && not (digits f)) p) ∙ not-both (digits f) (a && c)
+    ∙ ap not (sym (and-assoc (digits f) a c)) ∙ ap (λ (x : Bool). x && not (digits f && a && c)) (sym p)

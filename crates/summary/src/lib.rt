@@ -1,14 +1,18 @@
 // The rules of a summary: which of them a record breaks.
+use kinds::DIGIT;
+use kinds::all_of;
+use kinds::present_but_not;
 use paper::Layout;
 ghost use mathlib.Core.Path.{_≡_};
-ghost use mathlib.Core.Bool.{_&&_, cond};
+ghost use mathlib.Core.Bool.{not, _&&_, cond};
 ghost use mathlib.Core.List.{[], _∷_};
 ghost use Prim.Native.Nat.{ℕ, _/_, _%_};
 ghost use lib.Dec.{eqb};
 ghost use lib.ListN.{length, getD};
 ghost use Rattle.paper.specs.declared.Layout.the-variants.{L4868, LSummary};
-ghost use Rattle.paper.specs.Bytes.{present};
+ghost use Rattle.paper.specs.Bytes.{present, digits};
 ghost use Rattle.paper.specs.Layouts.{field};
+ghost use Rattle.kinds.specs.Kinds.{table};
 ghost use Rattle.text.specs.Words.{little};
 ghost use Rattle.words.specs.Sets.{bitOn, bitsOn, bitsBy};
 ghost use Rattle.words.specs.Tables.{ruleText};
@@ -41,28 +45,31 @@ fn wrong_year(f: &[u8]) -> bool
 }
 
 // Present and not HHMM.
-fn not_time(f: &[u8]) -> bool
+fn not_time(not_digits: bool, f: &[u8]) -> bool
+    requires { ⌜ «not_digits» ≡ (present (now f) && not (digits (now f))) ⌝ }
     ensures { λ r. ⌜ r ≡ notTime (now (f .entry)) ⌝ }
 {
     if text::blank(f) {
         return false;
     }
-    !field::hhmm(f)
+    not_digits | !field::clock(f)
 }
 
 // The rules on the head, 0010, 0020 and 0040, before later ones.
-fn of_head(form: &[u8], own: &[u8], later: u64) -> u64
+fn of_head(kinds: &[u8; 256], form: &[u8], own: &[u8], later: u64) -> u64
+    requires { ⌜ now kinds ≡ table ⌝ }
     ensures { λ r. ⌜ r ≡ bitsOn (λ (rule : ℕ). summaryHolds (rule / 10000) (rule % 10000) (now (form .entry)) (now (own .entry))) (45 ∷ 20004 ∷ 100027 ∷ 200010 ∷ 200027 ∷ 400010 ∷ []) later ⌝ }
 {
-    let set = words::and_rule(!text::digits(field_of(40, own)), later);
+    let set = words::and_rule(!all_of(kinds, DIGIT, field_of(40, own)), later);
     let set = words::and_rule(
         !text::is_same(field_of(20, own), text::piece(of_form(8, form), 2, 6)),
         set,
     );
-    let set = words::and_rule(!text::digits(field_of(20, own)), set);
+    let set = words::and_rule(!all_of(kinds, DIGIT, field_of(20, own)), set);
     let set = words::and_rule(text::blank(field_of(10, own)), set);
+    let number = field_of(2, own);
     let set = words::and_rule(
-        words::other_number(field_of(2, own), of_form(90, form)),
+        words::other_number(all_of(kinds, DIGIT, number), number, of_form(90, form)),
         set,
     );
     words::and_rule(fillers(own), set)
@@ -76,10 +83,11 @@ fn and_reserve(n: u32, own: &[u8], later: u64) -> u64
 }
 
 // The rules on 0050 to 0090, before later ones.
-fn of_50_to_90(own: &[u8], later: u64) -> u64
+fn of_50_to_90(kinds: &[u8; 256], own: &[u8], later: u64) -> u64
+    requires { ⌜ now kinds ≡ table ⌝ }
     ensures { λ r. ⌜ r ≡ bitsOn (λ (rule : ℕ). summaryHolds (rule / 10000) (rule % 10000) [] (now (own .entry))) (500014 ∷ 550014 ∷ 600014 ∷ 630014 ∷ 700014 ∷ 750014 ∷ 800014 ∷ 900010 ∷ []) later ⌝ }
 {
-    let set = words::and_rule(!text::digits(field_of(90, own)), later);
+    let set = words::and_rule(!all_of(kinds, DIGIT, field_of(90, own)), later);
     let set = and_reserve(80, own, set);
     let set = and_reserve(75, own, set);
     let set = and_reserve(70, own, set);
@@ -122,7 +130,8 @@ fn of_reserves(own: &[u8], later: u64) -> u64
 }
 
 // The rules on 0260 to 0290, before later ones.
-fn of_260_to_290(own: &[u8], later: u64) -> u64
+fn of_260_to_290(kinds: &[u8; 256], own: &[u8], later: u64) -> u64
+    requires { ⌜ now kinds ≡ table ⌝ }
     ensures { λ r. ⌜ r ≡ bitsOn (λ (rule : ℕ). summaryHolds (rule / 10000) (rule % 10000) [] (now (own .entry))) (2600010 ∷ 2600490 ∷ 2600491 ∷ 2700010 ∷ 2700491 ∷ 2800010 ∷ 2800491 ∷ 2900014 ∷ []) later ⌝ }
 {
     let day = field_of(260, own);
@@ -137,10 +146,13 @@ fn of_260_to_290(own: &[u8], later: u64) -> u64
     let set = words::and_rule(no_zone & some, set);
     let set = words::and_rule(!words::one_of(b"ECGMPAH ", zone), set);
     let set = words::and_rule(no_time & some, set);
-    let set = words::and_rule(not_time(time), set);
+    let set = words::and_rule(not_time(present_but_not(kinds, DIGIT, time), time), set);
     let set = words::and_rule(no_day & some, set);
     let set = words::and_rule(wrong_year(day), set);
-    words::and_rule(words::not_date(day), set)
+    words::and_rule(
+        words::not_date(present_but_not(kinds, DIGIT, day), day),
+        set,
+    )
 }
 
 // The set of the rules that a summary breaks, where both records have their length.
@@ -153,10 +165,11 @@ pub fn broken(form: &[u8], own: &[u8]) -> u64
     if own.len() != 314 {
         return 0;
     }
-    let set = of_260_to_290(own, 0);
+    let kinds = kinds::table();
+    let set = of_260_to_290(&kinds, own, 0);
     let set = of_reserves(own, set);
-    let set = of_50_to_90(own, set);
-    of_head(form, own, set)
+    let set = of_50_to_90(&kinds, own, set);
+    of_head(&kinds, form, own, set)
 }
 
 // The text of the rule at a place of the table, its field and its code: eight bytes, the first one lowest.

@@ -4,18 +4,18 @@ use Prim.Native.Nat.{ℕ, suc, _+_, _-_, _*_, _%_, _^_, _≤_, _<_}
 use mathlib.Core.Path.{_≡_, refl, sym, ap, _∙_}
 use mathlib.Core.Bool.{Bool, true, false, cond}
 use mathlib.Core.List.{[], _∷_}
-use native.Mathlib.Nat.{add-comm}
+use native.Mathlib.Nat.{add-comm, add-sub-cancel-left}
 use native.Mathlib.Omega.{arith}
 use borrow.Author.Tests.{eqb-true, eqb-false, ne-eqb}
 use lib.Arith.{digits-mod}
 use lib.Dec.{eqb, lit≤}
 use lib.ListN.{length, getD, take, drop, length-take}
-use lib.Seq.{take-all, take-take}
+use lib.Seq.{take-all, take-take, drop-drop}
 use Rattle.paper.specs.declared.Kind.{Kind}
 use Rattle.paper.specs.declared.Kind.the-variants.{TranA, TranB, Form, Unknown, Payment, Auth, Summary, Recap, Stray}
 use Rattle.paper.specs.Bytes.{Bytes, bytes, every, same, part, number}
 use Rattle.paper.specs.Walk.{countOf, namedForm, named}
-use Rattle.paper.proofs.Laws.{both, same-eq}
+use Rattle.paper.proofs.Laws.{both, same-eq, part-take}
 use Rattle.text.specs.Words.{isByte, little}
 use Rattle.text.proofs.Words.{little-split, little-lt, every-split, same-little}
 
@@ -37,11 +37,29 @@ module _ (k : ℕ) (r : Bytes) (at w : ℕ) (few : k ≤ 8) (e : w ≡ little (p
       ap (λ (x : ℕ). x % 256 ^ k) (e ∙ little-split k (part at 8 r) ∙ ap (λ (l : Bytes). little l + q * 256 ^ k) first ∙ add-comm (little s) (q * 256 ^ k))
       ∙ digits-mod q less
 
--- the word of six bytes
-pub short-told : (r p : Bytes) (at w : ℕ) → p ≡ part at 6 r → w ≡ little (part 0 8 p) → every isByte (part 0 8 p) ≡ true → (w ≡ little (part at 6 r)) × (every isByte (part at 6 r) ≡ true)
-short-told r p at w e f h =
-    let all : take 8 p ≡ part at 6 r = take-all 8 p (omega (arith, ap length e, length-take 6 (drop at r))) ∙ e in
-    (f ∙ ap little all, ap (every isByte) (sym all) ∙ h)
+-- six bytes of the record of size bytes at a place, from one of its bytes on
+module _ (t : Bytes) (at size from w : ℕ) where
+  abbrev six : Bytes
+  six = part from 6 (part at size t)
+
+  -- as the word of six bytes
+  pub short-told : (p : Bytes) → p ≡ part from 6 (take (at + size - at) (drop at t)) → w ≡ little (part 0 8 p) → every isByte (part 0 8 p) ≡ true
+      → (w ≡ little six) × (every isByte six ≡ true)
+  short-told p e f h =
+      let e' : p ≡ six = e ∙ ap (λ (n : ℕ). part from 6 (take n (drop at t))) (add-sub-cancel-left at size) in
+      let all : take 8 p ≡ six = take-all 8 p (omega (arith, ap length e', length-take 6 (drop from (part at size t)))) ∙ e' in
+      (f ∙ ap little all, ap (every isByte) (sym all) ∙ h)
+
+  -- in a word of t
+  pub long-told : 43 ≤ size → from ≤ 14 → w ≡ little (part 0 8 (take (at + from + 8 - (at + from)) (drop (at + from) t)))
+      → every isByte (part 0 8 (take (at + from + 8 - (at + from)) (drop (at + from) t))) ≡ true → (w % 281474976710656 ≡ little six) × (every isByte six ≡ true)
+  long-told l m f h =
+      let here : six ≡ part (at + from) 6 t = part-take size from 6 (drop at t) (omega (arith, l, m)) ∙ ap (take 6) (drop-drop from at t) in
+      let word : part 0 8 (take (at + from + 8 - (at + from)) (drop (at + from) t)) ≡ part (at + from) 8 t =
+      ap (λ (n : ℕ). take 8 (take n (drop (at + from) t))) (add-sub-cancel-left (at + from) 8) ∙ take-take 8 8 (drop (at + from) t) (omega arith) in
+      let e : w ≡ little (part (at + from) 8 t) = f ∙ ap little word in
+      let g : every isByte (part (at + from) 8 t) ≡ true = ap (every isByte) (sym word) ∙ h in
+      (first-told 6 t (at + from) w (omega arith) e g ∙ ap little (sym here), ap (every isByte) here ∙ first-bytes 6 t (at + from) w (omega arith) e g)
 
 -- bytes, fewer than the name's where the record ends before, are the name exactly if the numbers are the same: its last byte is not 0
 pub is-name : (k : ℕ) (s b : Bytes) (n : ℕ) → n ≡ little s → every isByte s ≡ true → length s ≤ suc k

@@ -1,15 +1,16 @@
 -- Digits, and the number that they write: each of the two gives the other. Assumes nothing.
 use Prim.Native.Nat.{ℕ, zero, suc, _+_, _*_, _/_, _%_, _^_, _≤_, _<_}
-use mathlib.Core.Bool.{Bool, true, false}
+use mathlib.Core.Bool.{Bool, true, false, not, cond, Bool·not-not}
 use mathlib.Core.List.{[], _∷_, _++_, append-nil, append-assoc}
 use mathlib.Core.Path.{_≡_, refl, sym, ap, _∙_}
 use native.Mathlib.Nat.{mul-assoc, pow-suc, one-le-pow, mod-lt, mod-eq-of-lt, div-add-mod', mul-add-mod-self-right}
 use native.Mathlib.Omega.{arith}
 use lib.Dec.{eqb, leb}
-use lib.ListN.{length, length-append}
-use borrow.Author.Tests.{eq-eqb, eqb-true, le-leb, leb-true}
+use lib.ListN.{length, take, length-append}
+use borrow.Author.Tests.{eq-eqb, ne-eqb, eqb-true, le-leb, leb-true}
 use Rattle.paper.specs.Bytes.{Bytes, run, same, digits, isDigit, digitOn, number, written}
 use Rattle.paper.proofs.Laws.{both, same-eq, same-self}
+use Rattle.words.specs.Past.{numberIf}
 
 value-append : (s t : Bytes) (a : ℕ) → run digitOn a (s ++ t) ≡ run digitOn (run digitOn a s) t
 value-append [] t a = refl
@@ -92,3 +93,15 @@ same-number s t e h g = go (same s t) refl (eqb (number s) (number t)) refl
     go true p c q = sym (eq-eqb (number s) (number t) (ap number (same-eq s t p))) ∙ q
     go false p true q = sym p ∙ ap (same s) (sym (equal (eqb-true (number s) (number t) q))) ∙ same-self s
     go false p false q = refl
+
+-- a number or none
+pub none-number : (f : Bytes) → eqb (numberIf f) 0 ≡ not (digits f)
+unfolding numberIf
+none-number f = by (digits f)
+  where
+    by : (d : Bool) → eqb (cond d (number (take 16 f) + 1) 0) 0 ≡ not d
+    by true = ne-eqb (number (take 16 f) + 1) 0 (λ e. omega arith)
+    by false = refl
+
+pub some-number : (f : Bytes) → not (eqb (numberIf f) 0) ≡ digits f
+some-number f = ap not (none-number f) ∙ Bool·not-not (digits f)

@@ -1,19 +1,12 @@
 // The words of document 01's conditions, over a field: each says whether the field is at fault. A rule in a set.
 ghost use mathlib.Core.Path.{_≡_};
+ghost use mathlib.Core.Bool.{not, _&&_, _||_};
 ghost use Prim.Native.Nat.{_≤_};
-ghost use Rattle.paper.specs.Bytes.{bit};
-ghost use Rattle.paper.specs.Conditions.{notDigits, notX, notDate, notPositive, notPin, oneOf, otherNumber, wrongPage, notDouble0, notYear4, noNumber, unlisted, wrongAnd, late, wrongPayDate};
+ghost use lib.ListN.{take};
+ghost use Rattle.paper.specs.Bytes.{bytes, bit, same, part, present, allZeros, allNines};
+ghost use Rattle.paper.specs.Conditions.{controlIn, notX, oneOf, wrongPage, wrongAnd, late};
+ghost use Rattle.date.specs.Day.{isDay};
 ghost use Rattle.words.specs.Sets.{bitOn};
-
-// 0010: present but not digits.
-pub fn not_digits(f: &[u8]) -> bool
-    ensures { λ r. ⌜ r ≡ notDigits (now (f .entry)) ⌝ }
-{
-    if text::blank(f) {
-        return false;
-    }
-    !text::digits(f)
-}
 
 // 0010: not X or blank.
 pub fn not_x(f: &[u8]) -> bool
@@ -23,30 +16,30 @@ pub fn not_x(f: &[u8]) -> bool
 }
 
 // 0010: present and no valid date.
-pub fn not_date(f: &[u8]) -> bool
-    ensures { λ r. ⌜ r ≡ notDate (now (f .entry)) ⌝ }
+pub fn not_date(not_digits: bool, f: &[u8]) -> bool
+    ensures { λ r. ⌜ r ≡ (present (now (f .entry)) && («not_digits» || not (isDay (now (f .entry))))) ⌝ }
 {
     if text::blank(f) {
         return false;
     }
-    !date::valid_date(f)
+    not_digits | !date::is_day(f)
 }
 
 // 0010: not digits or zero.
-pub fn not_positive(f: &[u8]) -> bool
-    ensures { λ r. ⌜ r ≡ notPositive (now (f .entry)) ⌝ }
+pub fn not_positive(not_digits: bool, f: &[u8]) -> bool
+    ensures { λ r. ⌜ r ≡ («not_digits» || allZeros (now (f .entry))) ⌝ }
 {
-    !text::digits(f) | text::zeros(f)
+    not_digits | text::zeros(f)
 }
 
 // 0010: present and not digits above zero.
-pub fn not_pin(f: &[u8]) -> bool
-    ensures { λ r. ⌜ r ≡ notPin (now (f .entry)) ⌝ }
+pub fn not_pin(not_digits: bool, f: &[u8]) -> bool
+    ensures { λ r. ⌜ r ≡ (present (now (f .entry)) && («not_digits» || allZeros (now (f .entry)))) ⌝ }
 {
     if text::blank(f) {
         return false;
     }
-    not_positive(f)
+    not_positive(not_digits, f)
 }
 
 // The byte is one of these.
@@ -57,10 +50,10 @@ pub fn one_of(allowed: &[u8], f: &[u8]) -> bool
 }
 
 // 0004: not nine digits, or not equal to 0090.
-pub fn other_number(f: &[u8], ssn: &[u8]) -> bool
-    ensures { λ r. ⌜ r ≡ otherNumber (now (f .entry)) (now (ssn .entry)) ⌝ }
+pub fn other_number(is_digits: bool, f: &[u8], ssn: &[u8]) -> bool
+    ensures { λ r. ⌜ r ≡ (not «is_digits» || not (same (now (f .entry)) (now (ssn .entry)))) ⌝ }
 {
-    !text::digits(f) | !text::is_same(f, ssn)
+    !is_digits | !text::is_same(f, ssn)
 }
 
 // 0044: page not "PG01 ".
@@ -71,34 +64,34 @@ pub fn wrong_page(f: &[u8]) -> bool
 }
 
 // 0062: digits, first two not 00.
-pub fn not_double_0(f: &[u8]) -> bool
-    ensures { λ r. ⌜ r ≡ notDouble0 (now (f .entry)) ⌝ }
+pub fn not_double_0(is_digits: bool, f: &[u8]) -> bool
+    ensures { λ r. ⌜ r ≡ («is_digits» && not (same (take 2 (now (f .entry))) (bytes "00"))) ⌝ }
 {
-    text::digits(f) & !text::is_same(text::piece(f, 0, 2), b"00")
+    is_digits & !text::is_same(text::piece(f, 0, 2), b"00")
 }
 
 // 0064: digits, last not 4.
-pub fn not_year_4(f: &[u8]) -> bool
-    ensures { λ r. ⌜ r ≡ notYear4 (now (f .entry)) ⌝ }
+pub fn not_year_4(is_digits: bool, f: &[u8]) -> bool
+    ensures { λ r. ⌜ r ≡ («is_digits» && not (same (part 13 1 (now (f .entry))) (bytes "4"))) ⌝ }
 {
-    text::digits(f) & !text::is_same(text::piece(f, 13, 1), b"4")
+    is_digits & !text::is_same(text::piece(f, 13, 1), b"4")
 }
 
 // 0071: present, and not digits, all 0 or all 9.
-pub fn no_number(f: &[u8]) -> bool
-    ensures { λ r. ⌜ r ≡ noNumber (now (f .entry)) ⌝ }
+pub fn no_number(is_digits: bool, f: &[u8]) -> bool
+    ensures { λ r. ⌜ r ≡ (present (now (f .entry)) && (not «is_digits» || allZeros (now (f .entry)) || allNines (now (f .entry)))) ⌝ }
 {
     if text::blank(f) {
         return false;
     }
-    !text::digits(f) | text::zeros(f) | text::nines(f)
+    !is_digits | text::zeros(f) | text::nines(f)
 }
 
 // 0315, 0316: the number is digits, and no line has this control.
-pub fn unlisted(number: &[u8], control: &[u8], line: &[u8]) -> bool
-    ensures { λ r. ⌜ r ≡ unlisted (now (number .entry)) (now (control .entry)) (now (line .entry)) ⌝ }
+pub fn unlisted(is_digits: bool, control: &[u8], line: &[u8]) -> bool
+    ensures { λ r. ⌜ r ≡ («is_digits» && not (same (controlIn (now (line .entry))) (now (control .entry)))) ⌝ }
 {
-    text::digits(number) & !text::is_same(text::piece(line, 9, 4), control)
+    is_digits & !text::is_same(text::piece(line, 9, 4), control)
 }
 
 // 0312: has & while 0100 is blank, or the other way round.
@@ -121,10 +114,10 @@ pub fn late(day: &[u8]) -> bool
 }
 
 // 0397: no valid date or after 20040415.
-pub fn wrong_pay_date(f: &[u8]) -> bool
-    ensures { λ r. ⌜ r ≡ wrongPayDate (now (f .entry)) ⌝ }
+pub fn wrong_pay_date(is_digits: bool, f: &[u8]) -> bool
+    ensures { λ r. ⌜ r ≡ (not («is_digits» && isDay (now (f .entry))) || late (now (f .entry))) ⌝ }
 {
-    !date::valid_date(f) | late(f)
+    !(is_digits & date::is_day(f)) | late(f)
 }
 
 fn one_if(b: bool) -> u64

@@ -1,4 +1,5 @@
 use Rattle.paper.specs.Answer.{fileName}
+use Rattle.kinds.proofs.Ranges.{printable-kind}
 use borrow.Author.Needs.{needs}
 use Rattle.ack.proofs.is_file_name.Statement.{statement}
 use Rattle.ack.proofs.is_file_name.Tie as tie
@@ -9,4 +10,5 @@ is-file-name-spec =
     tie.close
     (tie.spec
     (λ c κs. search needs)
-    (λ c. cc))
+    (λ c κs. search needs)
+    (λ c. cc printable-kind))

@@ -18,4 +18,5 @@ broken-spec =
     (λ c κs. search needs)
     (λ c κs. search needs)
     (λ c κs. search needs)
-    (λ c. rw (eq-eqb _ _ (c .before .before .before .before .before .before .if1 .left), eq-eqb _ _ (c .before .before .before .before .before .if2 .left), c .of-head .ensures, c .before .of-payer .ensures, c .before .before .of-spouse .ensures, c .before .before .before .of-both .ensures, c .before .before .before .before .asked-of .ensures) (simp (missing-asked, missing-spouse-asked))))
+    (λ c κs. search needs)
+    (λ c. rw (eq-eqb _ _ (c .before .before .before .before .before .before .before .before .before .before .before .if1 .left), eq-eqb _ _ (c .before .before .before .before .before .before .before .before .before .before .if2 .left), c .of-head .ensures, c .before .before .of-payer .ensures, c .before .before .before .before .of-spouse .ensures, c .before .before .before .before .before .before .of-both .ensures, c .before .before .before .before .before .before .before .before .asked-of .ensures) (simp (missing-asked, missing-spouse-asked))))

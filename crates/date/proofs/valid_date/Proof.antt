@@ -1,22 +1,9 @@
-use Rattle.paper.specs.Fields.{validDate}
-use Rattle.paper.proofs.Flow.{flow, by-not-false}
-use Rattle.paper.proofs.Laws.{tests}
-use borrow.Author.Tests.{eq-eqb}
+use denote.Ref.{now}
+use Rattle.date.proofs.Days.{date-parts}
 use borrow.Author.Needs.{needs}
 use Rattle.date.proofs.valid_date.Statement.{statement}
 use Rattle.date.proofs.valid_date.Tie as tie
 
 pub valid-date-spec : {M : Type 1} → statement M
-unfolding validDate
 valid-date-spec =
-    tie.close
-    (tie.spec
-    (λ c. search (needs, tests, flow))
-    (λ c κs. search needs)
-    (λ c. search (needs, tests, flow))
-    (λ c κs. search needs)
-    (λ c κs. search needs)
-    (λ c κs. search needs)
-    (λ c κs. search needs)
-    (λ c. let d = c .before .before .before .before in
-    rw (eq-eqb _ _ (d .before .before .if1 .left), by-not-false _ _ (d .before .digits .ensures) (d .if2 .left)) (cc)))
+    tie.close (tie.spec (λ c κs. search needs) (λ c κs. search needs) (λ c. cc (date-parts (now (c .before .before .before .args .s)))))

@@ -1,3 +1,4 @@
+use Rattle.kinds.proofs.Ranges.{digit-kind}
 use Rattle.field.proofs.Laws.{piece-from}
 use borrow.Author.Needs.{needs}
 use Rattle.field.proofs.digits_then.Statement.{statement}
@@ -11,4 +12,4 @@ digits-then-spec =
     (λ c κs. search needs)
     (λ c κs. search needs)
     (λ c κs. search needs)
-    (λ c. cc (piece-from _ _)))
+    (λ c. cc (digit-kind, piece-from _ _)))

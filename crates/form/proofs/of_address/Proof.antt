@@ -16,7 +16,7 @@ of-address-spec =
     (λ c κs. search needs)
     (λ c κs. search needs)
     (λ c κs. search needs)
-    (λ c κs. search needs)
+    (λ c κs. rw (c .before .before .before .before .before .before .before .before .before .before .pre))
     (λ c κs. search needs)
     (λ c κs. search needs)
     (λ c κs. search needs)

@@ -12,6 +12,4 @@ wrong-state-spec =
     (λ c κs. search needs)
     (λ c. search flow)
     (λ c κs. search needs)
-    (λ c κs. search needs)
-    (λ c κs. search needs)
-    (λ c. and-skip _ _ _ _ (c .before .before .before .before .is-addressed .ensures) (c .before .before .before .if1 .left) (cc)))
+    (λ c. and-skip _ _ _ _ (c .before .before .is-addressed .ensures) (c .before .if1 .left) (cc)))

@@ -1,10 +1,10 @@
 use mathlib.Core.Path.{_∙_, ap, sym}
 use mathlib.Core.Bool.{true}
-use lib.ListN.{length, take}
-use Rattle.judge.specs.Seen.{numbersIn}
+use lib.ListN.{take}
 use denote.Ref.{now}
 use Rattle.paper.specs.Judge.{letterBy}
-use Rattle.judge.proofs.Seen.{form-wide}
+use Rattle.judge.specs.Seen.{numbersIn}
+use Rattle.judge.proofs.Seen.{own-few, own-member}
 use Rattle.judge.proofs.Whole.{letter-r, letter-filed, letter-rest}
 use borrow.Author.Needs.{needs}
 use Rattle.judge.proofs.letter_of.Statement.{statement}
@@ -18,6 +18,6 @@ letter-of-spec =
     (λ c κs. search needs)
     (λ c κs. search needs)
     (λ c. letter-filed _ _ _ _ _ (numbersIn (take (c .before .before .before .before .before .before .before .args .past .n) (now (c .before .before .before .before .before .before .before .args .row)))) (c .before .before .before .if1 .left) (c .before .before .field-of .ensures) (c .before .line-of .ensures) (c .if2 .taken))
-    (λ c κs. ap length (c .before .before .field-of .ensures) ∙ form-wide (now (c .before .before .before .before .before .before .before .args .form)) (c .before .before .before .before .before .before .before .pre) .2)
-    (λ c. ap (letterBy true) (sym (c .if3 .taken)) ∙ letter-rest _ _ _ _ _ (numbersIn (take (c .before .before .before .before .before .before .before .before .before .args .past .n) (now (c .before .before .before .before .before .before .before .before .before .args .row)))) (c .before .before .before .before .before .if1 .left) (c .before .before .before .before .field-of .ensures) (c .before .before .before .line-of .ensures) _ (c .before .before .if2 .left) (c .before .is-accepted .ensures))
-    (λ c. ap (letterBy true) (sym (c .if3 .left)) ∙ letter-rest _ _ _ _ _ (numbersIn (take (c .before .before .before .before .before .before .before .before .before .args .past .n) (now (c .before .before .before .before .before .before .before .before .before .args .row)))) (c .before .before .before .before .before .if1 .left) (c .before .before .before .before .field-of .ensures) (c .before .before .before .line-of .ensures) _ (c .before .before .if2 .left) (c .before .is-accepted .ensures)))
+    (λ c κs. own-few (now (c .before .before .before .before .before .before .before .args .form)) (c .before .before .before .before .before .before .before .args .identity) (c .before .before .before .before .before .before .before .pre .0) (c .before .before .before .before .before .before .before .pre .1))
+    (λ c. ap (letterBy true) (sym (c .if3 .taken)) ∙ letter-rest _ _ _ _ _ (numbersIn (take (c .before .before .before .before .before .before .before .before .before .args .past .n) (now (c .before .before .before .before .before .before .before .before .before .args .row)))) (c .before .before .before .before .before .if1 .left) (c .before .before .before .before .field-of .ensures) (c .before .before .before .line-of .ensures) _ (c .before .before .if2 .left) (own-member (now (c .before .before .before .before .before .before .before .before .before .args .form)) (take (c .before .before .before .before .before .before .before .before .before .args .past .n) (now (c .before .before .before .before .before .before .before .before .before .args .row))) (c .before .before .before .before .before .before .before .before .before .args .identity) _ (c .before .before .before .before .before .before .before .before .before .pre .0) (c .before .before .before .before .before .before .before .before .before .pre .1) (c .before .before .before .before .field-of .ensures) _ (c .before .is-accepted .ensures)))
+    (λ c. ap (letterBy true) (sym (c .if3 .left)) ∙ letter-rest _ _ _ _ _ (numbersIn (take (c .before .before .before .before .before .before .before .before .before .args .past .n) (now (c .before .before .before .before .before .before .before .before .before .args .row)))) (c .before .before .before .before .before .if1 .left) (c .before .before .before .before .field-of .ensures) (c .before .before .before .line-of .ensures) _ (c .before .before .if2 .left) (own-member (now (c .before .before .before .before .before .before .before .before .before .args .form)) (take (c .before .before .before .before .before .before .before .before .before .args .past .n) (now (c .before .before .before .before .before .before .before .before .before .args .row))) (c .before .before .before .before .before .before .before .before .before .args .identity) _ (c .before .before .before .before .before .before .before .before .before .pre .0) (c .before .before .before .before .before .before .before .before .before .pre .1) (c .before .before .before .before .field-of .ensures) _ (c .before .is-accepted .ensures))))

@@ -1,5 +1,6 @@
-use borrow.Author.Needs.{needs}
 use Rattle.paper.specs.Pack.{stateLine}
+use Rattle.kinds.proofs.Ranges.{digit-kind, letter-kind}
+use borrow.Author.Needs.{needs}
 use Rattle.lines.proofs.state_line.Statement.{statement}
 use Rattle.lines.proofs.state_line.Tie as tie
 
@@ -15,4 +16,4 @@ state-line-spec =
     (λ c κs. search needs)
     (λ c κs. search needs)
     (λ c κs. search needs)
-    (λ c. cc))
+    (λ c. cc (digit-kind, letter-kind)))

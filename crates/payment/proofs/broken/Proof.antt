@@ -13,4 +13,5 @@ broken-spec =
     (λ c. rw (eq-eqb _ _ (c .before .if1 .left), ne-eqb _ _ (c .if2 .taken)))
     (λ c κs. search needs)
     (λ c κs. search needs)
-    (λ c. rw (eq-eqb _ _ (c .before .before .before .if1 .left), eq-eqb _ _ (c .before .before .if2 .left)) (cc)))
+    (λ c κs. search needs)
+    (λ c. rw (eq-eqb _ _ (c .before .before .before .before .before .before .if1 .left), eq-eqb _ _ (c .before .before .before .before .before .if2 .left)) (cc)))

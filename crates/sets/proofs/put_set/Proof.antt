@@ -12,13 +12,9 @@ put-set-spec =
     (λ c κs. search needs)
     (λ c. search needs)
     (λ c. search needs)
-    (λ c.
-    let i = c in
-    let m = i .before in
-    let n = m .before in
-    let b = n .before .before .before .before .before .before .before in
-    let a = b .args in
-    not-set (now (a .main)) (now (a .t)) (now (a .date)) (a .j) (now (a .list)) (now (a .out)) (n .at-most-96 .result) (m .at-most-962 .result) (n .at-most-96 .ensures .0) (i .if1 .taken))
+    (λ c. 
+    let a = c .before .before .before .before .before .before .before .before .before .before .args in
+    not-set (now (a .main)) (now (a .t)) (now (a .date)) (a .j) (now (a .list)) (now (a .out)) (c .before .before .at-most-96 .result) (c .before .at-most-962 .result) (c .before .before .at-most-96 .ensures .0) (c .if1 .taken))
     (λ c. search needs)
     (λ c κs. search needs)
     (λ c. search needs)
@@ -26,13 +22,6 @@ put-set-spec =
     (λ c. search needs)
     (λ c κs. search needs)
     (λ c. search needs)
-    (λ c.
-    let e = c .before .before in
-    let k = e .before .before .before .before in
-    let s = k .before .before in
-    let i = s .before .before in
-    let m = i .before in
-    let n = m .before in
-    let b = n .before .before .before .before .before .before .before in
-    let a = b .args in
-    set-laid (now (a .main)) (now (a .t)) (now (a .date)) (a .j) (now (a .list)) (now (a .out)) (n .at-most-96 .result) (m .at-most-962 .result) (n .at-most-96 .ensures .0) (now (s .shown .result)) (k .put-set-key .last .0) (e .put-errors .last .0) (m .at-most-962 .ensures .0) (i .if1 .left) (s .shown .ensures) (k .put-set-key .ensures) (e .put-errors .ensures)))
+    (λ c. 
+    let a = c .before .before .before .before .before .before .before .before .before .before .before .before .before .before .before .before .before .before .before .before .args in
+    set-laid (now (a .main)) (now (a .t)) (now (a .date)) (a .j) (now (a .list)) (now (a .out)) (c .before .before .before .before .before .before .before .before .before .before .before .before .at-most-96 .result) (c .before .before .before .before .before .before .before .before .before .before .before .at-most-962 .result) (c .before .before .before .before .before .before .before .before .before .before .before .before .at-most-96 .ensures .0) (now (c .before .before .before .before .before .before .before .before .shown .result)) (c .before .before .before .before .before .before .put-set-key .last .0) (c .before .before .put-errors .last .0) (c .before .before .before .before .before .before .before .before .before .before .before .at-most-962 .ensures .0) (c .before .before .before .before .before .before .before .before .before .before .if1 .left) (c .before .before .before .before .before .before .before .before .shown .ensures) (c .before .before .before .before .before .before .put-set-key .ensures) (c .before .before .put-errors .ensures)))

@@ -15,4 +15,5 @@ broken-spec =
     (λ c κs. search needs)
     (λ c κs. search needs)
     (λ c κs. search needs)
-    (λ c. rw (eq-eqb _ _ (c .before .before .before .before .before .if1 .left), eq-eqb _ _ (c .before .before .before .before .if2 .left), c .of-head .ensures, c .before .of-50-to-90 .ensures, c .before .before .of-reserves .ensures, c .before .before .before .of-260-to-290 .ensures)))
+    (λ c κs. search needs)
+    (λ c. rw (eq-eqb _ _ (c .before .before .before .before .before .before .before .before .before .if1 .left), eq-eqb _ _ (c .before .before .before .before .before .before .before .before .if2 .left), c .of-head .ensures, c .before .before .of-50-to-90 .ensures, c .before .before .before .before .of-reserves .ensures, c .before .before .before .before .before .of-260-to-290 .ensures)))

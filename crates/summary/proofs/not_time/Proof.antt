@@ -1,5 +1,7 @@
+use denote.Ref.{now}
 use Rattle.paper.specs.Conditions.{notTime}
-use Rattle.paper.proofs.Flow.{flow, joined}
+use Rattle.paper.proofs.Flow.{flow}
+use Rattle.summary.proofs.Laws.{time-told}
 use borrow.Author.Needs.{needs}
 use Rattle.summary.proofs.not_time.Statement.{statement}
 use Rattle.summary.proofs.not_time.Tie as tie
@@ -12,4 +14,4 @@ not-time-spec =
     (λ c κs. search needs)
     (λ c. search flow)
     (λ c κs. search needs)
-    (λ c. search (flow, joined)))
+    (λ c. rw (c .clock .ensures) (time-told (now (c .before .before .before .before .args .f)) _ _ (c .before .before .blank .ensures) (c .before .if1 .left) (c .before .before .before .before .pre))))

@@ -1,17 +1,14 @@
-use Rattle.paper.specs.Conditions.{noNumber}
 use Rattle.paper.proofs.Flow.{flow, joined}
 use borrow.Author.Needs.{needs}
 use Rattle.words.proofs.no_number.Statement.{statement}
 use Rattle.words.proofs.no_number.Tie as tie
 
 pub no-number-spec : {M : Type 1} → statement M
-unfolding noNumber
 no-number-spec =
     tie.close
     (tie.spec
     (λ c κs. search needs)
     (λ c. search flow)
-    (λ c κs. search needs)
     (λ c κs. search needs)
     (λ c κs. search needs)
     (λ c. search (flow, joined)))

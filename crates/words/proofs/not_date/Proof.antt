@@ -1,11 +1,9 @@
-use Rattle.paper.specs.Conditions.{notDate}
 use Rattle.paper.proofs.Flow.{flow, joined}
 use borrow.Author.Needs.{needs}
 use Rattle.words.proofs.not_date.Statement.{statement}
 use Rattle.words.proofs.not_date.Tie as tie
 
 pub not-date-spec : {M : Type 1} → statement M
-unfolding notDate
 not-date-spec =
     tie.close
     (tie.spec

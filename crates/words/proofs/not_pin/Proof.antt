@@ -1,11 +1,9 @@
-use Rattle.paper.specs.Conditions.{notPin}
 use Rattle.paper.proofs.Flow.{flow, joined}
 use borrow.Author.Needs.{needs}
 use Rattle.words.proofs.not_pin.Statement.{statement}
 use Rattle.words.proofs.not_pin.Tie as tie
 
 pub not-pin-spec : {M : Type 1} → statement M
-unfolding notPin
 not-pin-spec =
     tie.close
     (tie.spec

@@ -1,10 +1,8 @@
-use Rattle.paper.specs.Conditions.{wrongPayDate}
 use borrow.Author.Needs.{needs}
 use Rattle.words.proofs.wrong_pay_date.Statement.{statement}
 use Rattle.words.proofs.wrong_pay_date.Tie as tie
 
 pub wrong-pay-date-spec : {M : Type 1} → statement M
-unfolding wrongPayDate
 wrong-pay-date-spec =
     tie.close
     (tie.spec

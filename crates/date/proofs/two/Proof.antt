@@ -1,0 +1,19 @@
+use denote.Ref.{now}
+use native.Mathlib.Omega.{arith}
+use Rattle.date.proofs.Days.{two-number}
+use borrow.Author.Needs.{needs}
+use Rattle.date.proofs.two.Statement.{statement}
+use Rattle.date.proofs.two.Tie as tie
+
+pub two-spec : {M : Type 1} → statement M
+two-spec =
+    tie.close
+    (tie.spec
+    (λ c. search needs)
+    (λ c κs. search needs)
+    (λ c. search needs)
+    (λ c. search needs)
+    (λ c. search needs)
+    (λ c κs. search needs)
+    (λ c. search needs)
+    (λ c. let a = c .before .before .before .before .before .args in (omega (arith, two-number (now (a .s)) (a .at) (search needs)), search needs)))
