@@ -58,6 +58,37 @@ pub fn case(seed: u64) -> Case {
     }
 }
 
+/// A sound case of two documents, the one domestic and joint, with a payment and an ATH, the other foreign.
+pub fn sound_case() -> Case {
+    let rng = &mut Prng::new(4868);
+    let mut world = World::new(rng, 2);
+    let [primary, spouse] = [world.lines.taxpayers[0], world.lines.taxpayers[1]];
+    let mut documents = Vec::new();
+    for foreign in [false, true] {
+        let shape = Shape {
+            foreign,
+            joint: !foreign,
+            self_gift: false,
+            spouse_gift: false,
+            payments: 1 - usize::from(foreign),
+            gift_only: false,
+            pin_type: (!foreign).then_some(b'O'),
+        };
+        let [first, second] = if foreign { [spouse, primary] } else { [primary, spouse] };
+        documents.extend(sound::document(rng, &mut world, shape, first, second));
+    }
+    let [trana, tranb] = sound::head(&world.digits);
+    let recap = sound::tail(&world.digits, 2);
+    Case {
+        transmission: [trana, tranb, documents.concat(), recap].concat(),
+        pack: world.lines.pack(),
+        date: sound::SOUND_DATE.to_vec(),
+        name: sound::SOUND_NAME.to_vec(),
+        room: Room::Beyond(0),
+        pattern: 0,
+    }
+}
+
 /// Some documents, most of them sound so far, all in shapes of their own.
 fn documents(rng: &mut Prng, world: &mut World) -> Vec<Record> {
     let count = match rng.below(200) {

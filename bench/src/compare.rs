@@ -1,6 +1,6 @@
 //! The mass comparison: both receivers on the same cases, byte for byte.
 
-use crate::cases::{Case, Room, case};
+use crate::cases::{Case, Room, case, sound_case};
 use crate::prng::Prng;
 use crate::shrink;
 use crate::tally::Tally;
@@ -87,6 +87,36 @@ pub fn compare(other: Receiver, count: u64, seed: u64) -> bool {
     tally.report()
 }
 
+/// A sound case, each byte of its transmission, pack, date and name in turn as each of the 256 byte values; reports the
+/// first disagreement, if there is one.
+pub fn sweep(other: Receiver) -> bool {
+    let parts: [(&str, fn(&mut Case) -> &mut Vec<u8>); 4] = [
+        ("transmission", |case| &mut case.transmission),
+        ("pack", |case| &mut case.pack),
+        ("date", |case| &mut case.date),
+        ("name", |case| &mut case.name),
+    ];
+    let mut bench = Bench::new(other);
+    let mut case = sound_case();
+    let mut count = 0;
+    for (name, part) in parts {
+        for place in 0..part(&mut case).len() {
+            let own = part(&mut case)[place];
+            for byte in 0..=255 {
+                part(&mut case)[place] = byte;
+                if bench.differs(&case) {
+                    println!("disagreement where byte {place} of the {name} is {byte}");
+                    return false;
+                }
+                count += 1;
+            }
+            part(&mut case)[place] = own;
+        }
+    }
+    println!("{count} cases agree: each byte of a sound case as each of the 256 byte values");
+    true
+}
+
 /// Shows the case of a seed, and whether the receivers agree on it.
 pub fn show(other: Receiver, seed: u64) -> bool {
     let mut bench = Bench::new(other);
@@ -100,19 +130,23 @@ pub fn show(other: Receiver, seed: u64) -> bool {
     !differs
 }
 
-/// Tries the comparison on receivers with known faults: each must be found, and shrunk to one document.
+/// Tries the comparison on receivers with known faults: each must be found, those of the generated cases be shrunk to one
+/// document.
 pub fn try_faults() -> bool {
+    let found = !sweep(letter_more);
+    println!("known fault, a letter more: {}", if found { "found" } else { "NOT FOUND" });
     let faults: [(&str, Receiver); 4] = [
         ("a wrong code", wrong_code),
         ("a byte after the file", touches_after),
         ("an output touched by a refusal", touches_refused),
         ("a wrong answer", wrong_answer),
     ];
-    faults.iter().all(|(name, receiver)| {
-        let found = find_fault(*receiver);
-        println!("known fault, {name}: {}", if found { "found and shrunk" } else { "NOT FOUND" });
-        found
-    })
+    found
+        && faults.iter().all(|(name, receiver)| {
+            let found = find_fault(*receiver);
+            println!("known fault, {name}: {}", if found { "found and shrunk" } else { "NOT FOUND" });
+            found
+        })
 }
 
 fn find_fault(receiver: Receiver) -> bool {
@@ -123,6 +157,12 @@ fn find_fault(receiver: Receiver) -> bool {
         let least = shrink::shrink(&mut bench, case);
         bench.differs(&least) && shrink::openings(&least.transmission) <= 1
     })
+}
+
+/// Takes a byte past the ASCII ones for a letter of a line's control.
+fn letter_more(transmission: &[u8], pack: &[u8], date: &[u8], name: &[u8], out: &mut [u8]) -> u64 {
+    let pack: Vec<u8> = pack.iter().map(|&byte| if byte == 218 { b'Z' } else { byte }).collect();
+    independent(transmission, &pack, date, name, out)
 }
 
 fn wrong_code(transmission: &[u8], pack: &[u8], date: &[u8], name: &[u8], out: &mut [u8]) -> u64 {

@@ -66,5 +66,5 @@ fn run(arguments: &[&str]) -> Option<bool> {
 }
 
 fn compare_all(cases: u64, seed: u64) -> bool {
-    compare::try_faults() && compare::compare(proved::acknowledge, cases, seed)
+    compare::try_faults() && compare::sweep(proved::acknowledge) && compare::compare(proved::acknowledge, cases, seed)
 }

@@ -2,16 +2,15 @@
 -- Assumes nothing.
 use mathlib.Core.Path.{_≡_, refl, sym, ap, _∙_}
 use mathlib.Core.Bool.{Bool, true, false, not, cond, _&&_, _||_, or-false, or-assoc}
-use mathlib.Core.List.{List, [], _∷_, _++_}
-use Prim.Native.Nat.{ℕ, suc, _+_, _-_, _≤_, _<_}
+use mathlib.Core.List.{List, [], _∷_}
+use Prim.Native.Nat.{ℕ, _+_, _-_, _≤_, _<_}
 use native.Mathlib.Omega.{arith}
 use native.Mathlib.Nat.{le-of-eq}
-use lib.Dec.{leb}
 use lib.ListN.{length, getD, take, drop, length-drop}
-use lib.Seq.{take-all, take-suc}
+use lib.Seq.{take-all}
 use borrow.Author.Tests.{eq-eqb, ne-eqb}
-use Rattle.paper.specs.Bytes.{bit, count, every, any, isLetter, isSpace, isZero, blank}
-use Rattle.paper.specs.Fields.{consTrim, trim, beside, spaced, isLess, nameByte, name, zerosThenBlanks}
+use Rattle.paper.specs.Bytes.{every, any, isLetter, isSpace, isZero, blank}
+use Rattle.paper.specs.Fields.{beside, spaced, isLess, nameByte, name, zerosThenBlanks}
 use Rattle.paper.proofs.Laws.{next, ended, never}
 use Rattle.paper.proofs.Flow.{and-right}
 

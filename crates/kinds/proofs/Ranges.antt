@@ -10,10 +10,10 @@ use borrow.Author.Tests.{ne-eqb, le-leb, lt-leb, ltb-true, ltb-false}
 use lib.Bits.{bitAnd, and-zero-r}
 use lib.Dec.{T, eqb, leb, ltb}
 use lib.ListN.{length, getD}
-use Rattle.paper.specs.Bytes.{Bytes, every, any, count, within, isDigit, isLetter}
+use Rattle.paper.specs.Bytes.{within, isDigit, isLetter}
 use Rattle.paper.specs.Fields.{nameByte, isAlnum, streetByte, cityByte, accountByte}
 use Rattle.paper.specs.Pack.{controlByte}
-use Rattle.kinds.specs.Kinds.{table, isIn, Range, ranges, firstNot}
+use Rattle.kinds.specs.Kinds.{table, isIn, Range, ranges}
 
 -- the kinds k have one of a set
 abbrev meets : ℕ → ℕ → Bool

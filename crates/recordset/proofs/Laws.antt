@@ -21,12 +21,11 @@ use Rattle.words.specs.Past.{numberIf, identityOf, noIdentity}
 use Rattle.words.proofs.Digits.{none-number}
 use Rattle.recordset.specs.Key.{shownAs, keyOf}
 
--- one text if both hold
-pub if-both : (a b : Bool) (x y q r : Bytes) → q ≡ cond a x y → r ≡ cond b q y → r ≡ cond (a && b) x y
-if-both true true x y q r e f = f ∙ e
-if-both true false x y q r e f = f
-if-both false true x y q r e f = f ∙ e
-if-both false false x y q r e f = f
+-- one text where both hold, else another
+pub if-both : (a b : Bool) (x y r : Bytes) → r ≡ cond b (cond a x y) y → r ≡ cond (a && b) x y
+if-both true b x y r e = e
+if-both false true x y r e = e
+if-both false false x y r e = e
 
 -- a field is shown where the form is known and it is digits
 pub shown-said : (known : Bool) (n : ℕ) (f : Bytes) → shownAs (cond known (numberIf f) 0) n f ≡ orZeros known n f

@@ -18,13 +18,6 @@ ghost use Rattle.paper.specs.File.{pinByte};
 ghost use Rattle.record.specs.Parts.{placed};
 ghost use Rattle.recordset.specs.Key.{keyOf};
 
-// The one text or the other.
-fn pick<'a>(first: bool, a: &'a [u8], b: &'a [u8]) -> &'a [u8]
-    ensures { λ r. ⌜ now r ≡ cond first (now (a .entry)) (now (b .entry)) ⌝ }
-{
-    if first { a } else { b }
-}
-
 fn pin_byte(known: bool, ath_found: bool, facts: Facts) -> u8
     ensures { λ r. ⌜ r ≡ pinByte known «ath_found» facts ⌝ }
 {
@@ -69,7 +62,10 @@ fn if_accepted<'a>(letter: Letter, text: &'a [u8], other: &'a [u8]) -> &'a [u8]
 fn if_paid<'a>(letter: Letter, facts: Facts, text: &'a [u8], other: &'a [u8]) -> &'a [u8]
     ensures { λ r. ⌜ now r ≡ cond (isA letter && ltb 0 (facts .pays)) (now (text .entry)) (now (other .entry)) ⌝ }
 {
-    pick(0 < facts.pays, if_accepted(letter, text, other), other)
+    if 0 < facts.pays {
+        return if_accepted(letter, text, other);
+    }
+    other
 }
 
 // The ACK Key of a document, at the front of out.
@@ -110,8 +106,10 @@ pub fn from(t: &[u8], place: usize) -> &[u8]
 pub fn type_at<'a>(kind: Kind, r: &'a [u8], blanks: &'a [u8]) -> &'a [u8]
     ensures { λ t. ⌜ now t ≡ cond (is Kind.Summary kind) (now (blanks .entry)) (field Layout.L4868 1 (now (r .entry))) ⌝ }
 {
-    let form = layout::field_of(Layout::L4868, 1, r);
-    pick(walk::is_summary(kind), blanks, form)
+    if walk::is_summary(kind) {
+        return blanks;
+    }
+    layout::field_of(Layout::L4868, 1, r)
 }
 
 pub fn occurrence_at<'a>(kind: Kind, r: &'a [u8], first: &'a [u8]) -> &'a [u8]
@@ -119,7 +117,9 @@ pub fn occurrence_at<'a>(kind: Kind, r: &'a [u8], first: &'a [u8]) -> &'a [u8]
 {
     if walk::is_payment(kind) | walk::is_auth(kind) {
         let f = layout::field_of(Layout::LPayment, 5, r);
-        return pick(kinds::digits(f), f, first);
+        if kinds::digits(f) {
+            return f;
+        }
     }
     first
 }

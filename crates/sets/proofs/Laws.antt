@@ -1,6 +1,6 @@
 -- The rules of a set one after the other, and Error records laid one after the other. Assumes nothing.
 use mathlib.Core.Path.{_≡_, refl, sym, ap, _∙_}
-use mathlib.Core.Bool.{Bool, true, not, cond, _&&_}
+use mathlib.Core.Bool.{Bool, true, not, cond}
 use mathlib.Core.List.{List, [], _∷_, _++_, map, append-nil, append-assoc}
 use Prim.Native.Nat.{ℕ, zero, suc, _+_, _-_, _*_, _/_, _%_, _^_, _<_, _≤_, min}
 use native.Mathlib.Nat.{pow-suc}
@@ -26,7 +26,7 @@ use Rattle.paper.specs.declared.Judgment.{Judgment}
 use Rattle.paper.specs.declared.Kind.{Kind}
 use Rattle.paper.specs.declared.Kind.the-variants.{TranA, TranB, Form, Unknown, Payment, Auth, Summary, Recap, Stray}
 use Rattle.paper.specs.declared.Layout.the-variants.{L4868}
-use Rattle.paper.specs.Bytes.{Bytes, bytes, digits, every, laid}
+use Rattle.paper.specs.Bytes.{Bytes, bytes, every, laid}
 use Rattle.paper.specs.Conditions.{formRules, paymentRules, authRules, summaryRules, rulesOf}
 use Rattle.paper.specs.Judge.{Finding, mark, typeAt, occurrenceAt}
 use Rattle.paper.specs.Layouts.{field}

@@ -3,7 +3,7 @@
 use Prim.Native.Nat.{ℕ}
 use mathlib.Core.Bool.{Bool, true, false, not, _&&_, _||_}
 use mathlib.Core.List.{List}
-use mathlib.Core.Path.{_≡_, refl, sym, ap, _∙_}
+use mathlib.Core.Path.{_≡_, refl, ap, _∙_}
 use Rattle.paper.specs.Bytes.{Bytes, every, isDigit, present, digits, allZeros}
 use Rattle.paper.specs.Conditions.{notDigits, notDate, notPositive, notPin, late, wrongPayDate}
 use Rattle.kinds.specs.Kinds.{table, isIn}
