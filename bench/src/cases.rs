@@ -77,8 +77,15 @@ pub fn sound_case() -> Case {
         let [first, second] = if foreign { [spouse, primary] } else { [primary, spouse] };
         documents.extend(sound::document(rng, &mut world, shape, first, second));
     }
+    for record in documents.iter_mut().filter(|record| kind_of(record) == Some(Kind::Summary)) {
+        put(record, summary::POSTMARK_DATE, b"20040401");
+        put(record, summary::POSTMARK_TIME, b"2359");
+        put(record, summary::POSTMARK_ZONE, b"E");
+    }
     let [trana, tranb] = sound::head(&world.digits);
     let recap = sound::tail(&world.digits, 2);
+    world.lines.filed.push(*b"000000001");
+    world.lines.transmissions.push(*b"000000000001");
     Case {
         transmission: [trana, tranb, documents.concat(), recap].concat(),
         pack: world.lines.pack(),

@@ -4,10 +4,15 @@ use crate::cases::{Case, Room, case, sound_case};
 use crate::prng::Prng;
 use crate::shrink;
 use crate::tally::Tally;
+use crate::twin::layout::form;
 use crate::{Receiver, independent};
 
 /// Longer than any file.
 const SCRATCH: usize = 1 << 20;
+/// The answer to two accepted documents: TRANA and TRANB, a Key each, and the Recap.
+const ACCEPTED: u64 = 600;
+/// TRANA and TRANB.
+const HEAD: usize = 240;
 /// Bytes after the output, which must stay as well.
 const GUARD: usize = 32;
 
@@ -87,9 +92,18 @@ pub fn compare(other: Receiver, count: u64, seed: u64) -> bool {
     tally.report()
 }
 
-/// A sound case, each byte of its transmission, pack, date and name in turn as each of the 256 byte values; reports the
-/// first disagreement, if there is one.
+/// The sweep: a sound case, each byte of which takes each of the 256 byte values in turn. Reports the first disagreement.
 pub fn sweep(other: Receiver) -> bool {
+    let result = swept(other);
+    match result {
+        Ok(count) => println!("{count} cases agree: each byte of a sound case as each of the 256 byte values"),
+        Err((part, place, byte)) => println!("disagreement where byte {place} of the {part} is {byte}"),
+    }
+    result.is_ok()
+}
+
+/// How many cases the sweep has, or the part, place and value of the first disagreement.
+fn swept(other: Receiver) -> Result<usize, (&'static str, usize, u8)> {
     let parts: [(&str, fn(&mut Case) -> &mut Vec<u8>); 4] = [
         ("transmission", |case| &mut case.transmission),
         ("pack", |case| &mut case.pack),
@@ -98,6 +112,8 @@ pub fn sweep(other: Receiver) -> bool {
     ];
     let mut bench = Bench::new(other);
     let mut case = sound_case();
+    let [sound, _] = bench.outcomes(&case);
+    assert_eq!(sound.answer, ACCEPTED, "both documents of the sound case are accepted, so that one byte can change it");
     let mut count = 0;
     for (name, part) in parts {
         for place in 0..part(&mut case).len() {
@@ -105,16 +121,14 @@ pub fn sweep(other: Receiver) -> bool {
             for byte in 0..=255 {
                 part(&mut case)[place] = byte;
                 if bench.differs(&case) {
-                    println!("disagreement where byte {place} of the {name} is {byte}");
-                    return false;
+                    return Err((name, place, byte));
                 }
                 count += 1;
             }
             part(&mut case)[place] = own;
         }
     }
-    println!("{count} cases agree: each byte of a sound case as each of the 256 byte values");
-    true
+    Ok(count)
 }
 
 /// Shows the case of a seed, and whether the receivers agree on it.
@@ -133,15 +147,20 @@ pub fn show(other: Receiver, seed: u64) -> bool {
 /// Tries the comparison on receivers with known faults: each must be found, those of the generated cases be shrunk to one
 /// document.
 pub fn try_faults() -> bool {
-    let found = !sweep(letter_more);
-    println!("known fault, a letter more: {}", if found { "found" } else { "NOT FOUND" });
+    let swept_faults: [(&str, Receiver); 2] =
+        [("a letter more in a line", letter_more), ("a letter more in a name", name_more)];
+    let all_swept = swept_faults.iter().all(|(name, receiver)| {
+        let found = swept(*receiver).is_err();
+        println!("known fault, {name}: {}", if found { "found" } else { "NOT FOUND" });
+        found
+    });
     let faults: [(&str, Receiver); 4] = [
         ("a wrong code", wrong_code),
         ("a byte after the file", touches_after),
         ("an output touched by a refusal", touches_refused),
         ("a wrong answer", wrong_answer),
     ];
-    found
+    all_swept
         && faults.iter().all(|(name, receiver)| {
             let found = find_fault(*receiver);
             println!("known fault, {name}: {}", if found { "found and shrunk" } else { "NOT FOUND" });
@@ -163,6 +182,18 @@ fn find_fault(receiver: Receiver) -> bool {
 fn letter_more(transmission: &[u8], pack: &[u8], date: &[u8], name: &[u8], out: &mut [u8]) -> u64 {
     let pack: Vec<u8> = pack.iter().map(|&byte| if byte == 218 { b'Z' } else { byte }).collect();
     independent(transmission, &pack, date, name, out)
+}
+
+/// Takes a byte past the ASCII ones for a letter of the first document's name, which no record of the file shows.
+fn name_more(transmission: &[u8], pack: &[u8], date: &[u8], name: &[u8], out: &mut [u8]) -> u64 {
+    let mut transmission = transmission.to_vec();
+    let start = HEAD + form::NAME_LINE.start;
+    for byte in &mut transmission[start..start + 35] {
+        if *byte == 218 {
+            *byte = b'Z';
+        }
+    }
+    independent(&transmission, pack, date, name, out)
 }
 
 fn wrong_code(transmission: &[u8], pack: &[u8], date: &[u8], name: &[u8], out: &mut [u8]) -> u64 {

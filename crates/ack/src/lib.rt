@@ -1,5 +1,7 @@
 // The acknowledgment file of a transmission, and the entry points.
 use judge::Past;
+use kinds::PRINTABLE;
+use kinds::all_of;
 use pack::Places;
 use pack::Shape;
 use paper::Answer;
@@ -354,7 +356,7 @@ fn is_file_name(s: &[u8]) -> bool
     ensures { λ r. ⌜ r ≡ fileName (now (s .entry)) ⌝ }
 {
     let kinds = kinds::table();
-    (s.len() == 20) & kinds::all_of(&kinds, kinds::PRINTABLE, s)
+    (s.len() == 20) & all_of(&kinds, PRINTABLE, s)
 }
 
 // The acknowledgment file of a transmission t, written at the front of out, or a refusal, which changes no byte of out.

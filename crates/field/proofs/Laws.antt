@@ -1,5 +1,4 @@
--- What is left of a field: side by side, and after zeros.
--- Assumes nothing.
+-- What is left of a field: side by side, after zeros, and in a name. Assumes nothing.
 use mathlib.Core.Path.{_≡_, refl, sym, ap, _∙_}
 use mathlib.Core.Bool.{Bool, true, false, not, cond, _&&_, _||_, or-false, or-assoc}
 use mathlib.Core.List.{List, [], _∷_}

@@ -1,4 +1,4 @@
--- Spaces: at the end of a field, and two before another byte. Assumes nothing.
+-- Spaces: at the end of a field, two before another byte, and after an account. Assumes nothing.
 use mathlib.Core.Path.{_≡_, refl, sym, ap, _∙_}
 use mathlib.Core.Bool.{Bool, true, false, not, cond, _&&_, _||_, and-true, and-false, or-false, or-assoc}
 use mathlib.Core.List.{[], _∷_}

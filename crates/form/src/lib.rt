@@ -210,6 +210,7 @@ fn of_head(form: &[u8], told: Told, date: &[u8], whole: Facts, later: u64) -> u6
     ensures { λ r. ⌜ r ≡ bitsOn (breaks (now (form .entry)) [] [] [] 0 0 (now (date .entry)) whole) (1 ∷ 44 ∷ 45 ∷ 310 ∷ 30004 ∷ 50003 ∷ []) later ⌝ }
 {
     let set = words::and_rule(!text::is_same(field_of(5, form), b"200312"), later);
+    // Where 0003 is the same as 0090, both are digits or neither is.
     let set = words::and_rule(
         words::other_number(
             told.identity.ssn != 0,
@@ -311,8 +312,8 @@ fn of_money(kinds: &[u8; 256], form: &[u8], later: u64) -> u64
     words::and_rule(present_but_not(kinds, DIGIT, field_of(120, form)), set)
 }
 
-// The lines that the pack has of 0090, 0100 and the state are looked up by the caller; dsn and
-// dcn are 0007 and 0008 of the nearest earlier form and 1, 0 for none.
+// Payer, spouse and zips are the lines that the pack has of 0090, 0100 and the state; dsn and dcn are the nearest earlier numbers of 0007 and
+// 0008 and 1, 0 for none. A record of another length is no form, and has no number.
 pub fn broken(
     form: &[u8],
     payer: &[u8],

@@ -1,4 +1,4 @@
-// One document's judgment: its letter, its findings and its facts; and what it leaves for the later ones to see.
+// One document's judgment: its letter, its numbers, its findings and its facts; and what it leaves for the later ones to see.
 use paper::Findings;
 use paper::Identity;
 use paper::Judgment;
@@ -152,7 +152,7 @@ fn less_1(n: u64) -> u64
     if n == 0 { 0 } else { n - 1 }
 }
 
-// The nearest number after this one: 0 is none.
+// The nearest number, once this one is read; 0 is none.
 fn number_after(number: u64, n: u64) -> u64
     ensures { λ r. ⌜ r ≡ numberAfter number n ⌝ }
 {
@@ -356,19 +356,7 @@ pub fn judge(
     }
     let end = at + first.size;
     let form = &t[at..end];
-    let whole = Extent { first, size, facts };
-    let formed = of_form(
-        t,
-        at,
-        whole,
-        form,
-        taxpayers,
-        banks,
-        states,
-        date,
-        past,
-        list,
-    );
+    let formed = of_form(t, at, doc, form, taxpayers, banks, states, date, past, list);
     let found = formed.found;
     let identity = formed.identity;
     let letter = letter_of(found.rows, identity, filed, form, past, row);

@@ -44,7 +44,7 @@ fits i [] = true
 fits i (k ∷ ks) = agree i k ranges && fits (suc i) ks
 
 -- THE TEST, computed over the 256 entries
-fitting : T (fits 0 table)
+pub fitting : T (fits 0 table)
 unfolding table
 fitting = tt
 
@@ -101,7 +101,7 @@ agree-at zero x k (r ∷ rs) h = alike-same _ _ (two (alike (meets k (r .set)) (
 agree-at (suc n) x k (r ∷ rs) h = agree-at n x k rs (two (alike (meets k (r .set)) (r .has x)) (agree x k rs) h .1)
 
 -- as functions: a set of kinds by the table, and its range
-tells : (n : ℕ) → isIn table (range n ranges .set) ≡ range n ranges .has
+pub tells : (n : ℕ) → isIn table (range n ranges .set) ≡ range n ranges .has
 unfolding isIn
 tells n = λ i x. agree-at n x (getD table x 0) ranges (everywhere x) i
 

@@ -56,6 +56,7 @@ ranges =
     ∷ []
 
 -- the place of the first that does not pass; the length for none
+-- tied to the paper by `account-no` and `account-yes` of field/Spaces
 abbrev pub firstNot : (ℕ → Bool) → Bytes → ℕ
 firstNot p [] = 0
 firstNot p (x ∷ s) = cond (p x) (suc (firstNot p s)) 0

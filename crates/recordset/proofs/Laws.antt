@@ -1,4 +1,5 @@
--- A record set is its Key and its Error records, and its length; what is left of bytes from a place on. Assumes nothing.
+-- What a Key shows by the form's numbers; a record set is its Key and its Error records, and its length; what is left of bytes from a place
+-- on. Assumes nothing.
 use mathlib.Core.Path.{_≡_, refl, sym, ap, _∙_}
 use Prim.Native.Nat.{ℕ, _+_, _-_, _*_, _≤_}
 use mathlib.Core.Bool.{Bool, true, false, not, cond, _&&_}

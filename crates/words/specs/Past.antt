@@ -10,15 +10,16 @@ use Rattle.paper.specs.Bytes.{Bytes, digits, number, written}
 use Rattle.paper.specs.Layouts.{field}
 
 -- the number that up to 16 digits write; none where they are not digits
--- tied to the paper by `some-number` of words/Digits and `nearest` of judge/Seen
+-- tied to the paper by `leaves` and `nearest` of judge/Seen
 unfoldable pub numberIf : Bytes → ℕ
 numberIf f = cond (digits f) (number (take 16 f) + 1) 0
 
--- tied to the paper by `some-number` of words/Digits and `nearest` of judge/Seen
+-- tied to the paper by `leaves` and `nearest` of judge/Seen
 unfoldable pub identityOf : Bytes → Identity
 identityOf form = record { ssn = numberIf (field L4868 90 form); dsn = numberIf (field L4868 7 form); dcn = numberIf (field L4868 8 form) }
 
 -- of a form that is not known
+-- tied to the paper by `set-parts` of recordset/Laws
 abbrev pub noIdentity : Identity
 noIdentity = record { ssn = 0; dsn = 0; dcn = 0 }
 

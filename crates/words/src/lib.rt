@@ -1,4 +1,5 @@
-// The words of document 01's conditions, over a field: each says whether the field is at fault. A rule in a set.
+// The words of document 01's conditions, over a field: each says whether the field is at fault. Whether the field is digits is for the caller
+// to tell, who has the table of kinds. A rule in a set.
 ghost use mathlib.Core.Path.{_≡_};
 ghost use mathlib.Core.Bool.{not, _&&_, _||_};
 ghost use Prim.Native.Nat.{_≤_};
@@ -15,7 +16,7 @@ pub fn not_x(f: &[u8]) -> bool
     !(text::is_same(f, b"X") | text::blank(f))
 }
 
-// 0010: present and no valid date.
+// 0010: present and no valid date. It is enough to tell of a present field that it is not digits.
 pub fn not_date(not_digits: bool, f: &[u8]) -> bool
     ensures { λ r. ⌜ r ≡ (present (now (f .entry)) && («not_digits» || not (isDay (now (f .entry))))) ⌝ }
 {
@@ -32,7 +33,7 @@ pub fn not_positive(not_digits: bool, f: &[u8]) -> bool
     not_digits | text::zeros(f)
 }
 
-// 0010: present and not digits above zero.
+// 0010: present and not digits above zero, told likewise.
 pub fn not_pin(not_digits: bool, f: &[u8]) -> bool
     ensures { λ r. ⌜ r ≡ (present (now (f .entry)) && («not_digits» || allZeros (now (f .entry)))) ⌝ }
 {
