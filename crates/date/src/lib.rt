@@ -41,8 +41,7 @@ fn day_of_year(y: u32, m: u32, d: u32) -> bool
     (1 <= d) & (d <= last_day(y, m))
 }
 
-// The number that two digits write.
-fn two(s: &[u8], at: usize) -> u32
+fn two_digits(s: &[u8], at: usize) -> u32
     requires { ⌜ at + 2 ≤ length (now s) ⌝ }
     ensures { λ r. ⌜ (r ≡ number (part at 2 (now (s .entry)))) × (r ≤ 2277) ⌝ }
 {
@@ -56,7 +55,8 @@ pub fn is_day(s: &[u8]) -> bool
     if s.len() != 8 {
         return false;
     }
-    day_of_year(two(s, 0) * 100 + two(s, 2), two(s, 4), two(s, 6))
+    let year = two_digits(s, 0) * 100 + two_digits(s, 2);
+    day_of_year(year, two_digits(s, 4), two_digits(s, 6))
 }
 
 pub fn valid_date(s: &[u8]) -> bool

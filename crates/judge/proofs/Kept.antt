@@ -1,6 +1,6 @@
 -- Records that break a rule, added to those that are held. Assumes nothing.
 use mathlib.Core.Path.{_≡_, refl, sym, ap, _∙_}
-use mathlib.Core.Bool.{Bool, true, false, cond, _||_}
+use mathlib.Core.Bool.{Bool, true, false, cond, _||_, or-false, or-assoc}
 use mathlib.Core.List.{List, [], _∷_, _++_, map, map-append}
 use Prim.Native.Nat.{ℕ, zero, suc, _+_, _-_, _≤_, _<_, min}
 use native.Mathlib.Omega.{arith}
@@ -14,14 +14,6 @@ use Rattle.paper.specs.declared.Kind.the-variants.{Auth}
 use Rattle.paper.specs.Bytes.{any}
 use Rattle.paper.specs.Walk.{is, kindNumber}
 use Rattle.judge.specs.Kept.{Broke, brokeIf, onAuth, triple, total, noFindings, Held, held, listed, counted, keptOf, added}
-
-or-false : (a : Bool) → (a || false) ≡ a
-or-false true = refl
-or-false false = refl
-
-or-assoc : (a b c : Bool) → ((a || b) || c) ≡ (a || (b || c))
-or-assoc true b c = refl
-or-assoc false b c = refl
 
 pub any-append : {A : Type 0} (p : A → Bool) (xs ys : List A) → any p (xs ++ ys) ≡ (any p xs || any p ys)
 any-append p [] ys = refl

@@ -13,7 +13,19 @@ use lib.ListN.{length, getD}
 use Rattle.paper.specs.Bytes.{within, isDigit, isLetter}
 use Rattle.paper.specs.Fields.{nameByte, isAlnum, streetByte, cityByte, accountByte}
 use Rattle.paper.specs.Pack.{controlByte}
-use Rattle.kinds.specs.Kinds.{table, isIn, Range, ranges}
+use Rattle.kinds.specs.Kinds.{Kind, kinds, table, isIn}
+
+-- a set of kinds, and the range that it stands for: each kind by itself, and letters with digits
+record Range : Type 0 where
+  set : ℕ
+  has : ℕ → Bool
+
+abbrev alone : List Kind → List Range
+alone [] = []
+alone (k ∷ ks) = record { set = k .bit; has = k .has } ∷ alone ks
+
+abbrev ranges : List Range
+ranges = record { set = 3; has = isAlnum } ∷ alone kinds
 
 -- the kinds k have one of a set
 abbrev meets : ℕ → ℕ → Bool
@@ -106,13 +118,13 @@ unfolding isIn
 tells n = λ i x. agree-at n x (getD table x 0) ranges (everywhere x) i
 
 pub digit-kind : isIn table 1 ≡ isDigit
-digit-kind = tells 0
+digit-kind = tells 1
 
 pub letter-kind : isIn table 2 ≡ isLetter
-letter-kind = tells 1
+letter-kind = tells 2
 
 pub alnum-kind : isIn table 3 ≡ isAlnum
-alnum-kind = tells 2
+alnum-kind = tells 0
 
 pub name-kind : isIn table 4 ≡ nameByte
 name-kind = tells 3

@@ -3,7 +3,7 @@
 use Prim.{tt}
 use Prim.Native.Nat.{ℕ, zero, suc, _+_, _-_, _*_, _/_, _%_, _^_, _<_, _≤_}
 use mathlib.Core.Path.{_≡_, refl, sym, ap, ap₂, _∙_}
-use mathlib.Core.Bool.{Bool, true, false, _&&_, _||_, cond}
+use mathlib.Core.Bool.{Bool, true, false, _&&_, _||_, cond, and-assoc}
 use mathlib.Core.List.{[], _∷_, _++_}
 use native.Mathlib.Nat.{zero-mul, one-mul, mul-one, mul-comm, mul-assoc, add-mul, pow-suc, one-le-pow, suc-mul, mul-le-mul-right, add-mul-div-right, add-mul-mod-self-right, mod-lt, div-add-mod', add-comm}
 use native.Mathlib.Omega.{arith}
@@ -16,14 +16,10 @@ use Rattle.paper.specs.Bytes.{Bytes, every, same, before, part}
 use Rattle.paper.proofs.Laws.{both, next, same-eq, same-self}
 use Rattle.text.specs.Words.{isByte, little, bytesOf, high, wordLaid}
 
-and-assoc : (a b c : Bool) → (a && (b && c)) ≡ ((a && b) && c)
-and-assoc true b c = refl
-and-assoc false b c = refl
-
 pub every-split : (p : ℕ → Bool) (k : ℕ) (s : Bytes) → every p s ≡ (every p (take k s) && every p (drop k s))
 every-split p zero s = refl
 every-split p (suc k) [] = refl
-every-split p (suc k) (x ∷ s) = ap (λ (b : Bool). p x && b) (every-split p k s) ∙ and-assoc (p x) (every p (take k s)) (every p (drop k s))
+every-split p (suc k) (x ∷ s) = ap (λ (b : Bool). p x && b) (every-split p k s) ∙ sym (and-assoc (p x) (every p (take k s)) (every p (drop k s)))
 
 -- bytes, the first one and the others
 first-byte : (x : ℕ) (s : Bytes) → every isByte (x ∷ s) ≡ true → x < 256

@@ -21,4 +21,4 @@ is-day-spec =
     (λ c κs. search needs)
     (λ c.
     let k = c .before .before .before .before in
-    rw (eq-eqb _ _ (k .before .if1 .left), c .day-of-year .ensures, c .before .two4 .ensures .0, c .before .before .two3 .ensures .0, c .before .before .before .two2 .ensures .0, k .two .ensures .0, four-number (now (k .before .before .before .args .s)) (k .before .if1 .left))))
+    rw (eq-eqb _ _ (k .before .if1 .left), c .day-of-year .ensures, c .before .two-digits4 .ensures .0, c .before .before .two-digits3 .ensures .0, c .before .before .before .two-digits2 .ensures .0, k .two-digits .ensures .0, four-number (now (k .before .before .before .args .s)) (k .before .if1 .left))))

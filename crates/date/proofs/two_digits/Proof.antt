@@ -2,11 +2,11 @@ use denote.Ref.{now}
 use native.Mathlib.Omega.{arith}
 use Rattle.date.proofs.Days.{two-number}
 use borrow.Author.Needs.{needs}
-use Rattle.date.proofs.two.Statement.{statement}
-use Rattle.date.proofs.two.Tie as tie
+use Rattle.date.proofs.two_digits.Statement.{statement}
+use Rattle.date.proofs.two_digits.Tie as tie
 
-pub two-spec : {M : Type 1} → statement M
-two-spec =
+pub two-digits-spec : {M : Type 1} → statement M
+two-digits-spec =
     tie.close
     (tie.spec
     (λ c. search needs)
