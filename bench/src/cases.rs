@@ -58,7 +58,8 @@ pub fn case(seed: u64) -> Case {
     }
 }
 
-/// A sound case of two documents, the one domestic and joint, with a payment and an ATH, the other foreign.
+/// A sound case of two documents, the one domestic and joint, with a payment and an ATH, the other foreign, with a
+/// payment. Each payment is dated on the last day that it may have.
 pub fn sound_case() -> Case {
     let rng = &mut Prng::new(4868);
     let mut world = World::new(rng, 2);
@@ -70,12 +71,16 @@ pub fn sound_case() -> Case {
             joint: !foreign,
             self_gift: false,
             spouse_gift: false,
-            payments: 1 - usize::from(foreign),
+            payments: 1,
             gift_only: false,
             pin_type: (!foreign).then_some(b'O'),
         };
         let [first, second] = if foreign { [spouse, primary] } else { [primary, spouse] };
         documents.extend(sound::document(rng, &mut world, shape, first, second));
+    }
+    let payments = documents.iter_mut().filter(|record| kind_of(record) == Some(Kind::Payment));
+    for (record, last_day) in payments.zip([b"20040415", b"20040615"]) {
+        put(record, payment::PAYMENT_DATE, last_day);
     }
     for record in documents.iter_mut().filter(|record| kind_of(record) == Some(Kind::Summary)) {
         put(record, summary::POSTMARK_DATE, b"20040401");
@@ -216,6 +221,9 @@ fn edit_documents(rng: &mut Prng, world: &World, records: &mut Vec<Record>) {
     if rng.one_in(8) {
         edit_makeup(rng, records);
     }
+    if rng.one_in(8) {
+        edit_payment_dates(rng, records);
+    }
     for _ in 0..fields {
         edit_field(rng, world, records);
     }
@@ -251,6 +259,13 @@ fn edit_makeup(rng: &mut Prng, records: &mut Vec<Record>) {
     }
     if records.is_empty() {
         records.push(blank_record(b"FRM   9999  PG01 ", 43));
+    }
+}
+
+/// Dates each payment on one of the two last days or beside it, whatever the address.
+fn edit_payment_dates(rng: &mut Prng, records: &mut [Record]) {
+    for record in records.iter_mut().filter(|record| kind_of(record) == Some(Kind::Payment)) {
+        put(record, payment::PAYMENT_DATE, rng.pick(edges::LAST_PAYMENT_DAYS));
     }
 }
 

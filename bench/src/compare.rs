@@ -86,7 +86,7 @@ pub fn compare(other: Receiver, count: u64, seed: u64) -> bool {
             shrink::report(&mut bench, case);
             return false;
         }
-        tally.add(expected.answer, expected.output);
+        tally.add(&case.transmission, expected.answer, expected.output);
     }
     println!("{count} cases agree: answer, length, every byte of the output and after it");
     tally.report()

@@ -11,7 +11,7 @@ const DATES: &[&[u8]] = &[
     b"20040415", b"20040416", b"20040414", b"20030229", b"20040229", b"20000229", b"19000229", b"20040431",
     b"20040430", b"20040630", b"20040631", b"20040731", b"20040831", b"20040930", b"20040931", b"20041231",
     b"20041301", b"20040001", b"20040100", b"20040132", b"00010101", b"00000101", b"99991231", b"00000000", b"2004041",
-    b"2004 415", b"2004041A", b"20050101", b"20031231", b"20030415",
+    b"2004 415", b"2004041A", b"20050101", b"20031231", b"20030415", b"20040614", b"20040615", b"20040616",
 ];
 const MONEY: &[&[u8]] = &[
     b"000000000000", b"000000000001", b"100000000000", b"00000000000", b" 00000000000", b"00000000000A",
@@ -145,6 +145,9 @@ fn summary_values(field: u16) -> &'static [&'static [u8]] {
 
 /// Bytes just inside and just outside each kind of byte.
 pub const BYTES: &[u8] = b"\0\x1F !#%&',-./019:;<=@ABYZ[`az{~\x7F\xFF";
+
+/// The last days of payments, domestic and foreign, and the days beside them.
+pub const LAST_PAYMENT_DAYS: &[&[u8]] = &[b"20040414", b"20040415", b"20040416", b"20040614", b"20040615", b"20040616"];
 
 /// Receiving dates: most are valid.
 pub const RECEIVING_DATES: &[&[u8]] = &[

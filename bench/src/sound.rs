@@ -103,6 +103,12 @@ const ROUTING_STARTS: [&[u8; 2]; 10] = [b"01", b"12", b"21", b"32", b"07", b"25"
 /// So many of them are in range.
 const IN_RANGE: usize = 6;
 
+/// Dates of sound payments.
+const PAYMENT_DATES: [&[u8]; 7] =
+    [b"20040415", b"20040401", b"20040229", b"20040416", b"20040520", b"20040614", b"20040615"];
+/// So many of them will do for a domestic payment.
+const BY_APRIL: usize = 3;
+
 impl World {
     /// A world of this many taxpayers, with some banks and states.
     pub fn new(rng: &mut Prng, taxpayers: usize) -> Self {
@@ -311,7 +317,8 @@ fn payment_record(rng: &mut Prng, world: &World, shape: Shape, people: &People, 
         _ => rng.pick(&[b"4868E", b"4868E", b"0709P", b"0709S"]),
     };
     put(&mut record, payment::TAX_TYPE, tax_type);
-    put(&mut record, payment::PAYMENT_DATE, rng.pick(&[b"20040415", b"20040401", b"20040229"]));
+    let dates = if shape.foreign { &PAYMENT_DATES[..] } else { &PAYMENT_DATES[..BY_APRIL] };
+    put(&mut record, payment::PAYMENT_DATE, rng.pick(dates));
     put(&mut record, payment::PHONE, rng.pick(&[b"", b"4135550100"]));
     record
 }

@@ -1,12 +1,17 @@
-//! How often each code, letter, refusal and whole rejection occurred.
+//! How often each code, letter, refusal and whole rejection occurred, and each payment date beside a limit.
 
+use crate::twin::layout::{form, payment};
 use crate::twin::rules::{self, Rule};
+use crate::twin::walk::{Kind, step};
 use std::collections::BTreeMap;
 
 const RECORD: usize = 120;
 const LETTERS: [u8; 3] = *b"ARD";
 const WHOLE_CODES: [u16; 3] = [822, 823, 840];
 const REFUSALS: [&str; 5] = ["answered", "refusal 1", "refusal 2", "refusal 3", "refusal 4"];
+const ADDRESSES: [&str; 2] = ["domestic", "foreign"];
+/// The last days of payments, domestic and foreign, each with the day after.
+const PAYMENT_DATES: [&str; 4] = ["20040415", "20040416", "20040615", "20040616"];
 
 /// The rules of one record kind, with how often each was a finding.
 struct Rules {
@@ -21,6 +26,8 @@ pub struct Tally {
     letters: [u64; 3],
     /// Documents with the most Error records that are written.
     full: u64,
+    /// Payments by their document's address and by date.
+    payments: [[u64; 4]; 2],
     findings: [Rules; 5],
 }
 
@@ -38,17 +45,19 @@ impl Tally {
             whole: [0; 3],
             letters: [0; 3],
             full: 0,
+            payments: [[0; 4]; 2],
             findings: tables.map(|(name, rules)| Rules { name, rules, counts: vec![0; rules.len()] }),
         }
     }
 
     /// Adds the answer and the file on which both receivers agree.
-    pub fn add(&mut self, answer: u64, output: &[u8]) {
+    pub fn add(&mut self, transmission: &[u8], answer: u64, output: &[u8]) {
         let refusal = (answer >> 32) as usize;
         self.refusals[refusal] += 1;
         let mut file = &output[..answer as u32 as usize];
         if file.starts_with(b"0120****TRANA ") {
             file = &file[2 * RECORD..];
+            self.add_payments(transmission);
         }
         for record in file.chunks_exact(RECORD) {
             match &record[8..14] {
@@ -56,6 +65,27 @@ impl Tally {
                 b"ACKR  " => self.add_error(record),
                 _ => {}
             }
+        }
+    }
+
+    /// Adds the payments of the 4868 documents of a transmission that was not rejected whole.
+    fn add_payments(&mut self, transmission: &[u8]) {
+        let mut rest = transmission;
+        let mut address = None;
+        while let Some((length, kind)) = step(rest) {
+            match kind {
+                Kind::Form => address = Some(usize::from(rest[form::ADDRESS_INDICATOR.start] == b'3')),
+                Kind::UnknownForm => address = None,
+                Kind::Payment => {
+                    let written = &rest[payment::PAYMENT_DATE.start..][..8];
+                    let date = PAYMENT_DATES.iter().position(|date| date.as_bytes() == written);
+                    if let (Some(address), Some(date)) = (address, date) {
+                        self.payments[address][date] += 1;
+                    }
+                }
+                _ => {}
+            }
+            rest = &rest[length..];
         }
     }
 
@@ -100,6 +130,10 @@ impl Tally {
         let letters = LETTERS.iter().zip(self.letters).map(|(letter, n)| line((*letter as char).to_string(), n));
         println!("letters  {}", letters.collect::<Vec<_>>().join("  "));
         println!("{}", line("documents with 96 Error records".to_string(), self.full));
+        for (address, counts) in ADDRESSES.iter().zip(self.payments) {
+            let dates = PAYMENT_DATES.iter().zip(counts).map(|(date, n)| line(format!("{address} payment {date}"), n));
+            println!("{}", dates.collect::<Vec<_>>().join("  "));
+        }
         let codes: Vec<_> = self.codes().into_iter().map(|(code, n)| line(format!("{code:04}"), n)).collect();
         println!("findings by code");
         for row in codes.chunks(8) {

@@ -7,6 +7,7 @@ use super::rules;
 use super::walk::{Entry, Kind, Walked};
 
 const LAST_DAY: [u8; 8] = *b"20040415";
+const LAST_FOREIGN_PAYMENT_DAY: [u8; 8] = *b"20040615";
 const PAGE: [u8; 5] = *b"PG01 ";
 const FIRST_OCCURRENCE: [u8; 7] = *b"0000001";
 const MOST_PAYMENTS: usize = 3;
@@ -45,6 +46,14 @@ impl Document<'_> {
     /// 0004: the record's number is not nine digits, or not that of the document.
     fn is_not_of(&self, taxpayer: &[u8; 9]) -> bool {
         !self.primary_is_digits || taxpayer != self.primary_ssn
+    }
+
+    /// 0397: the last day for which a payment may be requested. A wrong address indicator is domestic.
+    fn last_payment_day(&self) -> [u8; 8] {
+        match form::ADDRESS_INDICATOR.byte(self.form) {
+            b'3' => LAST_FOREIGN_PAYMENT_DAY,
+            _ => LAST_DAY,
+        }
     }
 
     fn spouse_only(&self) -> bool {
@@ -268,7 +277,7 @@ fn judge_payment(record: &[u8; payment::LENGTH], document: &Document, pack: &Pac
         0050 0396 !matches!(payment::ACCOUNT_TYPE.byte(record), b'1' | b'2');
         0060 0010 !is_digits(amount) || is_zeros(amount);
         0070 0010 !matches!(payment::TAX_TYPE.of(record), b"4868E" | b"0709P" | b"0709S");
-        0080 0397 !is_date(payment_date) || *payment_date > LAST_DAY;
+        0080 0397 !is_date(payment_date) || *payment_date > document.last_payment_day();
         0090 0010 present_but_not_digits(payment::PHONE.of(record));
     }
 }

@@ -17,7 +17,7 @@ ghost use Rattle.paper.specs.Bytes.{within, empty, letters};
 ghost use Rattle.paper.specs.Fields.{street, city};
 ghost use Rattle.paper.specs.Layouts.{field};
 ghost use Rattle.paper.specs.Pack.{linesIn};
-ghost use Rattle.paper.specs.Conditions.{factsOf, formFillers, foreign, addressed, wrongState, badZip, wrongZip, wrongForeign, noSpouse, formRules};
+ghost use Rattle.paper.specs.Conditions.{factsOf, formFillers, addressed, wrongState, badZip, wrongZip, wrongForeign, noSpouse, formRules};
 ghost use Rattle.text.specs.Words.{little};
 ghost use Rattle.kinds.specs.Kinds.{table};
 ghost use Rattle.words.specs.Sets.{bitsOn, bitsBy};
@@ -84,12 +84,6 @@ fn fillers(form: &[u8]) -> bool
     ensures { λ r. ⌜ r ≡ formFillers (now (form .entry)) ⌝ }
 {
     !text::blank(field_of(4, form)) | !text::blank(field_of(6, form))
-}
-
-fn is_foreign(form: &[u8]) -> bool
-    ensures { λ r. ⌜ r ≡ foreign (now (form .entry)) ⌝ }
-{
-    text::byte(field_of(80, form), 0) == b'3'
 }
 
 fn of_foreign(n: u32) -> bool
@@ -165,7 +159,7 @@ fn wrong_zip(form: &[u8], zips: &[u8]) -> bool
 fn wrong_foreign(form: &[u8]) -> bool
     ensures { λ r. ⌜ r ≡ wrongForeign (now (form .entry)) ⌝ }
 {
-    if !is_foreign(form) {
+    if !words::is_foreign(field_of(80, form)) {
         return false;
     }
     text::blank(field_of(32, form))

@@ -11,7 +11,7 @@ ghost use lib.ListN.{length, getD};
 ghost use Rattle.paper.specs.declared.Layout.the-variants.{L4868, LPayment};
 ghost use Rattle.paper.specs.Bytes.{digits};
 ghost use Rattle.paper.specs.Layouts.{field};
-ghost use Rattle.paper.specs.Conditions.{runs, wrongPayment, otherSpouse, wrongBank, taxType, paymentRules};
+ghost use Rattle.paper.specs.Conditions.{wrongPayDate, foreign, runs, wrongPayment, otherSpouse, wrongBank, taxType, paymentRules};
 ghost use Rattle.kinds.specs.Kinds.{table};
 ghost use Rattle.text.specs.Words.{little};
 ghost use Rattle.words.specs.Sets.{bitsOn, bitsBy};
@@ -69,6 +69,16 @@ fn tax_type(f: &[u8]) -> bool
     text::is_same(f, b"4868E") | text::is_same(f, b"0709P") | text::is_same(f, b"0709S")
 }
 
+// 0397: no valid date or after the last day, which is a later one where the form's address is foreign.
+fn wrong_date(kinds: &[u8; 256], form: &[u8], own: &[u8]) -> bool
+    requires { ⌜ now kinds ≡ table ⌝ }
+    ensures { λ r. ⌜ r ≡ wrongPayDate (foreign (now (form .entry))) (field LPayment 80 (now (own .entry))) ⌝ }
+{
+    let day = field_of(80, own);
+    let abroad = words::is_foreign(of_form(80, form));
+    words::wrong_pay_date(all_of(kinds, DIGIT, day), abroad, day)
+}
+
 // The rules on the head, 0010 and 0020, before later ones.
 fn of_payer(kinds: &[u8; 256], form: &[u8], own: &[u8], before: usize, later: u64) -> u64
     requires { ⌜ now kinds ≡ table ⌝ }
@@ -88,15 +98,14 @@ fn of_payer(kinds: &[u8; 256], form: &[u8], own: &[u8], before: usize, later: u6
 }
 
 // The rules on 0030 to 0090, before later ones.
-fn of_money(kinds: &[u8; 256], own: &[u8], bank: &[u8], later: u64) -> u64
+fn of_money(kinds: &[u8; 256], form: &[u8], own: &[u8], bank: &[u8], later: u64) -> u64
     requires { ⌜ now kinds ≡ table ⌝ }
-    ensures { λ r. ⌜ r ≡ bitsOn (breaks [] (now (own .entry)) (now (bank .entry)) 0) (300396 ∷ 400396 ∷ 500396 ∷ 600010 ∷ 700010 ∷ 800397 ∷ 900010 ∷ []) later ⌝ }
+    ensures { λ r. ⌜ r ≡ bitsOn (breaks (now (form .entry)) (now (own .entry)) (now (bank .entry)) 0) (300396 ∷ 400396 ∷ 500396 ∷ 600010 ∷ 700010 ∷ 800397 ∷ 900010 ∷ []) later ⌝ }
 {
-    let day = field_of(80, own);
     let amount = field_of(60, own);
     let routing = field_of(30, own);
     let set = words::and_rule(present_but_not(kinds, DIGIT, field_of(90, own)), later);
-    let set = words::and_rule(words::wrong_pay_date(all_of(kinds, DIGIT, day), day), set);
+    let set = words::and_rule(wrong_date(kinds, form, own), set);
     let set = words::and_rule(!tax_type(field_of(70, own)), set);
     let set = words::and_rule(
         words::not_positive(!all_of(kinds, DIGIT, amount), amount),
@@ -121,7 +130,13 @@ pub fn broken(form: &[u8], own: &[u8], bank: &[u8], before: usize) -> u64
         return 0;
     }
     let kinds = kinds::table();
-    of_payer(&kinds, form, own, before, of_money(&kinds, own, bank, 0))
+    of_payer(
+        &kinds,
+        form,
+        own,
+        before,
+        of_money(&kinds, form, own, bank, 0),
+    )
 }
 
 // The text of the rule at a place of the table, its field and its code: eight bytes, the first one lowest.

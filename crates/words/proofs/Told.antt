@@ -4,8 +4,8 @@ use Prim.Native.Nat.{ℕ}
 use mathlib.Core.Bool.{Bool, true, false, not, _&&_, _||_}
 use mathlib.Core.List.{List}
 use mathlib.Core.Path.{_≡_, refl, ap, _∙_}
-use Rattle.paper.specs.Bytes.{Bytes, every, isDigit, present, digits, allZeros}
-use Rattle.paper.specs.Conditions.{notDigits, notDate, notPositive, notPin, late, wrongPayDate}
+use Rattle.paper.specs.Bytes.{Bytes, every, before, isDigit, present, digits, allZeros}
+use Rattle.paper.specs.Conditions.{notDigits, notDate, notPositive, notPin, lastPayDay, wrongPayDate}
 use Rattle.kinds.specs.Kinds.{table, isIn}
 use Rattle.kinds.proofs.Ranges.{digit-kind}
 use Rattle.date.specs.Day.{isDay}
@@ -47,6 +47,8 @@ module _ (f : Bytes) {k : List ℕ} (t : k ≡ table) {n r : Bool} where
   unfolding notPin notPositive
   not-pin-by e h = h ∙ ap (λ (b : Bool). present f && (b || allZeros f)) (present-by f t e) ∙ once (present f) (digits f) (allZeros f)
 
-  pub pay-date-by : n ≡ every (isIn k 1) f → r ≡ (not (n && isDay f) || late f) → r ≡ wrongPayDate f
+  pub pay-date-by : (abroad : Bool) → n ≡ every (isIn k 1) f → r ≡ (not (n && isDay f) || before (lastPayDay abroad) f) → r ≡ wrongPayDate abroad f
   unfolding wrongPayDate
-  pay-date-by e h = h ∙ ap (λ (b : Bool). not (b && isDay f) || late f) (digits-by f t e) ∙ ap (λ (b : Bool). not b || late f) (date-parts f)
+  pay-date-by abroad e h =
+      h ∙ ap (λ (b : Bool). not (b && isDay f) || before (lastPayDay abroad) f) (digits-by f t e)
+      ∙ ap (λ (b : Bool). not b || before (lastPayDay abroad) f) (date-parts f)

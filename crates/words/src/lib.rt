@@ -3,9 +3,10 @@
 ghost use mathlib.Core.Path.{_≡_};
 ghost use mathlib.Core.Bool.{not, _&&_, _||_};
 ghost use Prim.Native.Nat.{_≤_};
-ghost use lib.ListN.{take};
-ghost use Rattle.paper.specs.Bytes.{bytes, bit, same, part, present, allZeros, allNines};
-ghost use Rattle.paper.specs.Conditions.{controlIn, notX, oneOf, wrongPage, wrongAnd, late};
+ghost use lib.Dec.{eqb};
+ghost use lib.ListN.{length, take, getD};
+ghost use Rattle.paper.specs.Bytes.{bytes, bit, same, before, part, present, allZeros, allNines};
+ghost use Rattle.paper.specs.Conditions.{controlIn, notX, oneOf, wrongPage, wrongAnd, late, lastPayDay};
 ghost use Rattle.date.specs.Day.{isDay};
 ghost use Rattle.words.specs.Sets.{bitOn};
 
@@ -104,21 +105,46 @@ pub fn wrong_and(f: &[u8], spouse: &[u8]) -> bool
     has & none | !has & !none
 }
 
+// A day comes after a last one, which has eight bytes. One of eight bytes is compared with it as a number.
+fn is_after(last: &[u8], day: &[u8]) -> bool
+    requires { ⌜ length (now last) ≡ 8 ⌝ }
+    ensures { λ r. ⌜ r ≡ before (now (last .entry)) (now (day .entry)) ⌝ }
+{
+    if day.len() != 8 {
+        return text::is_before(last, day);
+    }
+    text::rank(last, 0) < text::rank(day, 0)
+}
+
 // 0310: received after 20040415.
 pub fn late(day: &[u8]) -> bool
     ensures { λ r. ⌜ r ≡ late (now (day .entry)) ⌝ }
 {
-    if day.len() != 8 {
-        return text::is_before(b"20040415", day);
-    }
-    0x32303034_30343135 < text::rank(day, 0) // 2004 0415
+    is_after(b"20040415", day)
 }
 
-// 0397: no valid date or after 20040415.
-pub fn wrong_pay_date(is_digits: bool, f: &[u8]) -> bool
-    ensures { λ r. ⌜ r ≡ (not («is_digits» && isDay (now (f .entry))) || late (now (f .entry))) ⌝ }
+// An address is foreign: its indicator is 3.
+pub fn is_foreign(indicator: &[u8]) -> bool
+    ensures { λ r. ⌜ r ≡ eqb (getD (now (indicator .entry)) 0 0) 51 ⌝ }
 {
-    !(is_digits & date::is_day(f)) | late(f)
+    text::byte(indicator, 0) == b'3'
+}
+
+// After the last day of a payment: June 15, 2004 for a foreign one, April 15 for any other.
+fn is_after_last(abroad: bool, f: &[u8]) -> bool
+    ensures { λ r. ⌜ r ≡ before (lastPayDay «abroad») (now (f .entry)) ⌝ }
+{
+    if abroad {
+        return is_after(b"20040615", f);
+    }
+    is_after(b"20040415", f)
+}
+
+// 0397: no valid date or after that day.
+pub fn wrong_pay_date(is_digits: bool, abroad: bool, f: &[u8]) -> bool
+    ensures { λ r. ⌜ r ≡ (not («is_digits» && isDay (now (f .entry))) || before (lastPayDay «abroad») (now (f .entry))) ⌝ }
+{
+    !(is_digits & date::is_day(f)) | is_after_last(abroad, f)
 }
 
 fn one_if(b: bool) -> u64

@@ -1,5 +1,5 @@
 use Rattle.paper.specs.Conditions.{wrongForeign}
-use Rattle.paper.proofs.Flow.{and-skip, flow}
+use Rattle.paper.proofs.Flow.{by-not-true, and-off, and-skip}
 use borrow.Author.Needs.{needs}
 use Rattle.form.proofs.wrong_foreign.Statement.{statement}
 use Rattle.form.proofs.wrong_foreign.Tie as tie
@@ -10,7 +10,8 @@ wrong-foreign-spec =
     tie.close
     (tie.spec
     (λ c κs. search needs)
-    (λ c. search flow)
+    (λ c κs. search needs)
+    (λ c. and-off _ _ (by-not-true _ _ (rw (c .before .before .field-of .ensures) at (c .before .is-foreign .ensures)) (c .if1 .taken)))
     (λ c κs. search needs)
     (λ c κs. search needs)
     (λ c κs. search needs)
@@ -25,4 +26,4 @@ wrong-foreign-spec =
     (λ c κs. search needs)
     (λ c κs. search needs)
     (λ c κs. search needs)
-    (λ c. and-skip _ _ _ _ (c .before .before .before .before .before .before .before .before .before .before .before .before .before .before .before .is-foreign .ensures) (c .before .before .before .before .before .before .before .before .before .before .before .before .before .before .if1 .left) (cc)))
+    (λ c. and-skip _ _ _ _ (rw (c .before .before .before .before .before .before .before .before .before .before .before .before .before .before .before .before .field-of .ensures) at (c .before .before .before .before .before .before .before .before .before .before .before .before .before .before .before .is-foreign .ensures)) (c .before .before .before .before .before .before .before .before .before .before .before .before .before .before .if1 .left) (cc)))
