@@ -105,7 +105,7 @@ pub fn wrong_and(f: &[u8], spouse: &[u8]) -> bool
     has & none | !has & !none
 }
 
-// A day comes after a last one, which has eight bytes. One of eight bytes is compared with it as a number.
+// A day comes after a last one of eight bytes; where it has eight too, they are compared as numbers.
 fn is_after(last: &[u8], day: &[u8]) -> bool
     requires { ⌜ length (now last) ≡ 8 ⌝ }
     ensures { λ r. ⌜ r ≡ before (now (last .entry)) (now (day .entry)) ⌝ }
