@@ -1,4 +1,4 @@
-//! How often each code, letter, refusal and whole rejection occurred, and each payment date beside a limit.
+//! How often each code, letter, refusal and whole rejection occurred, and payments on a last day or the day after.
 
 use crate::twin::layout::{form, payment};
 use crate::twin::rules::{self, Rule};
@@ -11,7 +11,7 @@ const WHOLE_CODES: [u16; 3] = [822, 823, 840];
 const REFUSALS: [&str; 5] = ["answered", "refusal 1", "refusal 2", "refusal 3", "refusal 4"];
 const ADDRESSES: [&str; 2] = ["domestic", "foreign"];
 /// The last days of payments, domestic and foreign, each with the day after.
-const PAYMENT_DATES: [&str; 4] = ["20040415", "20040416", "20040615", "20040616"];
+const COUNTED_DATES: [&str; 4] = ["20040415", "20040416", "20040615", "20040616"];
 
 /// The rules of one record kind, with how often each was a finding.
 struct Rules {
@@ -50,7 +50,7 @@ impl Tally {
         }
     }
 
-    /// Adds the answer and the file on which both receivers agree.
+    /// Adds the answer and the file on which both receivers agree, and the payments of the transmission.
     pub fn add(&mut self, transmission: &[u8], answer: u64, output: &[u8]) {
         let refusal = (answer >> 32) as usize;
         self.refusals[refusal] += 1;
@@ -78,7 +78,7 @@ impl Tally {
                 Kind::UnknownForm => address = None,
                 Kind::Payment => {
                     let written = &rest[payment::PAYMENT_DATE.start..][..8];
-                    let date = PAYMENT_DATES.iter().position(|date| date.as_bytes() == written);
+                    let date = COUNTED_DATES.iter().position(|date| date.as_bytes() == written);
                     if let (Some(address), Some(date)) = (address, date) {
                         self.payments[address][date] += 1;
                     }
@@ -131,7 +131,7 @@ impl Tally {
         println!("letters  {}", letters.collect::<Vec<_>>().join("  "));
         println!("{}", line("documents with 96 Error records".to_string(), self.full));
         for (address, counts) in ADDRESSES.iter().zip(self.payments) {
-            let dates = PAYMENT_DATES.iter().zip(counts).map(|(date, n)| line(format!("{address} payment {date}"), n));
+            let dates = COUNTED_DATES.iter().zip(counts).map(|(date, n)| line(format!("{address} payment {date}"), n));
             println!("{}", dates.collect::<Vec<_>>().join("  "));
         }
         let codes: Vec<_> = self.codes().into_iter().map(|(code, n)| line(format!("{code:04}"), n)).collect();

@@ -1,6 +1,6 @@
-//! The independent receiver: document 01 with §3 of document 02, in safe Rust, written for speed. Nothing is allocated:
-//! the walk notes each record's place and kind in a row on the stack, the judgment adds the set of its findings, the
-//! length follows from the counts, and the file is written in one go.
+//! The independent receiver: document 01 with the request on foreign payments, in safe Rust, written for speed. Nothing
+//! is allocated: the walk notes each record's place and kind in a row on the stack, the judgment adds the set of its
+//! findings, the length follows from the counts, and the file is written in one go.
 
 #![forbid(unsafe_code)]
 

@@ -69,7 +69,7 @@ fn tax_type(f: &[u8]) -> bool
     text::is_same(f, b"4868E") | text::is_same(f, b"0709P") | text::is_same(f, b"0709S")
 }
 
-// 0397: no valid date or after the last day, which is a later one where the form's address is foreign.
+// 0397: no valid date or after the last day, which is a later one where the form's address indicator is 3.
 fn wrong_date(kinds: &[u8; 256], form: &[u8], own: &[u8]) -> bool
     requires { ⌜ now kinds ≡ table ⌝ }
     ensures { λ r. ⌜ r ≡ wrongPayDate (foreign (now (form .entry))) (field LPayment 80 (now (own .entry))) ⌝ }
@@ -130,13 +130,8 @@ pub fn broken(form: &[u8], own: &[u8], bank: &[u8], before: usize) -> u64
         return 0;
     }
     let kinds = kinds::table();
-    of_payer(
-        &kinds,
-        form,
-        own,
-        before,
-        of_money(&kinds, form, own, bank, 0),
-    )
+    let set = of_money(&kinds, form, own, bank, 0);
+    of_payer(&kinds, form, own, before, set)
 }
 
 // The text of the rule at a place of the table, its field and its code: eight bytes, the first one lowest.

@@ -1,12 +1,11 @@
-// The words of document 01's conditions, over a field: each says whether the field is at fault. Whether the field is digits is for the caller
-// to tell, who has the table of kinds. A rule in a set.
+// The words of document 01's conditions, over a field: most say whether it is at fault. Whether a field is digits is for the caller to
+// tell, who has the table of kinds. A rule in a set.
 ghost use mathlib.Core.Path.{_≡_};
 ghost use mathlib.Core.Bool.{not, _&&_, _||_};
 ghost use Prim.Native.Nat.{_≤_};
-ghost use lib.Dec.{eqb};
-ghost use lib.ListN.{length, take, getD};
+ghost use lib.ListN.{length, take};
 ghost use Rattle.paper.specs.Bytes.{bytes, bit, same, before, part, present, allZeros, allNines};
-ghost use Rattle.paper.specs.Conditions.{controlIn, notX, oneOf, wrongPage, wrongAnd, late, lastPayDay};
+ghost use Rattle.paper.specs.Conditions.{controlIn, notX, oneOf, wrongPage, wrongAnd, late, isForeign, lastPayDay};
 ghost use Rattle.date.specs.Day.{isDay};
 ghost use Rattle.words.specs.Sets.{bitOn};
 
@@ -106,7 +105,7 @@ pub fn wrong_and(f: &[u8], spouse: &[u8]) -> bool
 }
 
 // A day comes after a last one of eight bytes; where it has eight too, they are compared as numbers.
-fn is_after(last: &[u8], day: &[u8]) -> bool
+fn is_after(day: &[u8], last: &[u8]) -> bool
     requires { ⌜ length (now last) ≡ 8 ⌝ }
     ensures { λ r. ⌜ r ≡ before (now (last .entry)) (now (day .entry)) ⌝ }
 {
@@ -120,12 +119,12 @@ fn is_after(last: &[u8], day: &[u8]) -> bool
 pub fn late(day: &[u8]) -> bool
     ensures { λ r. ⌜ r ≡ late (now (day .entry)) ⌝ }
 {
-    is_after(b"20040415", day)
+    is_after(day, b"20040415")
 }
 
 // An address is foreign: its indicator is 3.
 pub fn is_foreign(indicator: &[u8]) -> bool
-    ensures { λ r. ⌜ r ≡ eqb (getD (now (indicator .entry)) 0 0) 51 ⌝ }
+    ensures { λ r. ⌜ r ≡ isForeign (now (indicator .entry)) ⌝ }
 {
     text::byte(indicator, 0) == b'3'
 }
@@ -135,9 +134,9 @@ fn is_after_last(abroad: bool, f: &[u8]) -> bool
     ensures { λ r. ⌜ r ≡ before (lastPayDay «abroad») (now (f .entry)) ⌝ }
 {
     if abroad {
-        return is_after(b"20040615", f);
+        return is_after(f, b"20040615");
     }
-    is_after(b"20040415", f)
+    is_after(f, b"20040415")
 }
 
 // 0397: no valid date or after that day.
