@@ -13,4 +13,4 @@ wrong-date-spec =
     (λ c κs. search needs)
     (λ c κs. search needs)
     (λ c κs. search needs)
-    (λ c. rw (← c .before .before .before .before .field-of .ensures, ← c .before .before .before .of-form .ensures, ← c .before .before .is-foreign .ensures) (pay-date-by (now (c .before .before .before .before .field-of .result)) (c .before .before .before .before .before .before .before .pre) _ (c .before .all-of .ensures) (c .wrong-pay-date .ensures))))
+    (λ c. cc (pay-date-by (now (c .before .before .before .before .field-of .result)) (c .before .before .before .before .before .before .before .pre) (c .before .before .is-foreign .result) (c .before .all-of .ensures) (c .wrong-pay-date .ensures))))
