@@ -4,7 +4,7 @@ use crate::cases::{Case, Room, case, sound_case};
 use crate::prng::Prng;
 use crate::shrink;
 use crate::tally::Tally;
-use crate::twin::layout::form;
+use crate::twin::layout::{ack_key, form};
 use crate::{Receiver, independent};
 
 /// Longer than any file.
@@ -154,8 +154,9 @@ pub fn try_faults() -> bool {
         println!("known fault, {name}: {}", if found { "found" } else { "NOT FOUND" });
         found
     });
-    let faults: [(&str, Receiver); 4] = [
+    let faults: [(&str, Receiver); 5] = [
         ("a wrong code", wrong_code),
+        ("birth dates of sound ATHs alone", sound_births),
         ("a byte after the file", touches_after),
         ("an output touched by a refusal", touches_refused),
         ("a wrong answer", wrong_answer),
@@ -201,6 +202,17 @@ fn wrong_code(transmission: &[u8], pack: &[u8], date: &[u8], name: &[u8], out: &
     for record in out[..answer as u32 as usize].chunks_mut(120).filter(|record| record.starts_with(b"0120****ACKR")) {
         if record[60..64] == *b"0397" {
             record[63] = b'8';
+        }
+    }
+    answer
+}
+
+/// Compares the birth dates only where no ATH has a finding.
+fn sound_births(transmission: &[u8], pack: &[u8], date: &[u8], name: &[u8], out: &mut [u8]) -> u64 {
+    let answer = independent(transmission, pack, date, name, out);
+    for key in out[..answer as u32 as usize].chunks_mut(120).filter(|record| record.starts_with(b"0120****ACK   ")) {
+        if key[ack_key::PIN_PRESENCE.start] == b' ' {
+            key[ack_key::BIRTH_VALIDITY.start] = b'0';
         }
     }
     answer

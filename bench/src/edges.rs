@@ -149,6 +149,9 @@ pub const BYTES: &[u8] = b"\0\x1F !#%&',-./019:;<=@ABYZ[`az{~\x7F\xFF";
 /// The last days of payments, domestic and foreign, and the days beside them.
 pub const LAST_PAYMENT_DAYS: &[&[u8]] = &[b"20040414", b"20040415", b"20040416", b"20040614", b"20040615", b"20040616"];
 
+/// Birth dates, so few that two of them often agree: some differ in one digit, and the last is no date.
+pub const BIRTH_DATES: &[&[u8]] = &[b"19600229", b"19600228", b"29600229", b"00000000"];
+
 /// Receiving dates: most are valid.
 pub const RECEIVING_DATES: &[&[u8]] = &[
     b"20040415", b"20040416", b"20040414", b"20040229", b"20000229", b"00010101", b"99991231", b"20040531",

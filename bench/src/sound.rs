@@ -93,6 +93,9 @@ pub struct World {
 
 const CONTROLS: [&[u8]; 8] = [b"LEE ", b"SMIT", b"O-NE", b"DE L", b"ABCD", b"ZZZZ", b"    ", b"X-  "];
 
+/// Birth dates of taxpayers.
+const BIRTH_DATES: [&[u8]; 4] = [b"19600229", b"19611231", b"19600228", b"20000101"];
+
 /// States with their lines; a state may have several.
 const STATES: [&[u8; 8]; 9] = [
     b"AA340340", b"CT060069", b"DC200205", b"MA010027", b"MA055055", b"NY005005", b"NY100149", b"TX750799", b"WY820831",
@@ -153,7 +156,7 @@ fn taxpayer(rng: &mut Prng, ssn: &[u8; 9]) -> Taxpayer {
     let mut line = [b'0'; 33];
     line[..9].copy_from_slice(ssn);
     line[9..13].copy_from_slice(rng.pick(&CONTROLS));
-    line[13..21].copy_from_slice(&rng.digits::<8>());
+    line[13..21].copy_from_slice(rng.pick(&BIRTH_DATES));
     if !rng.one_in(8) {
         line[21..].copy_from_slice(&rng.digits::<12>());
     }
@@ -337,14 +340,14 @@ fn authentication_record(rng: &mut Prng, shape: Shape, pin_type: u8, people: &Pe
     if !(self_select && shape.spouse_only() && rng.one_in(2)) {
         put(&mut record, authentication::PRIMARY_PIN, b"12345");
         if self_select || rng.one_in(2) {
-            put(&mut record, authentication::PRIMARY_BIRTH, b"19600229");
+            put(&mut record, authentication::PRIMARY_BIRTH, &people.primary[13..21]);
             put(&mut record, authentication::PRIMARY_INCOME, &people.primary[21..]);
         }
     }
     if let Some(spouse) = people.spouse
         && !((!self_select || shape.self_only()) && rng.one_in(2))
     {
-        put(&mut record, authentication::SPOUSE_BIRTH, b"19611231");
+        put(&mut record, authentication::SPOUSE_BIRTH, &spouse[13..21]);
         put(&mut record, authentication::SPOUSE_INCOME, &spouse[21..]);
         put(&mut record, authentication::SPOUSE_PIN, b"00001");
     }

@@ -1,12 +1,15 @@
-//! How often each code, letter, refusal and whole rejection occurred, and payments on a last day or the day after.
+//! How often each code, letter, birth code, refusal and whole rejection occurred, and payments on a last day or the day
+//! after.
 
-use crate::twin::layout::{form, payment};
+use crate::twin::layout::{ack_key, form, payment};
 use crate::twin::rules::{self, Rule};
 use crate::twin::walk::{Kind, step};
 use std::collections::BTreeMap;
 
 const RECORD: usize = 120;
 const LETTERS: [u8; 3] = *b"ARD";
+/// What Key 0117 says.
+const BIRTH_CODES: [u8; 5] = *b"01234";
 const WHOLE_CODES: [u16; 3] = [822, 823, 840];
 const REFUSALS: [&str; 5] = ["answered", "refusal 1", "refusal 2", "refusal 3", "refusal 4"];
 const ADDRESSES: [&str; 2] = ["domestic", "foreign"];
@@ -24,6 +27,7 @@ pub struct Tally {
     refusals: [u64; 5],
     whole: [u64; 3],
     letters: [u64; 3],
+    birth_codes: [u64; 5],
     /// Documents with the most Error records that are written.
     full: u64,
     /// Payments by their document's address and by date.
@@ -44,6 +48,7 @@ impl Tally {
             refusals: [0; 5],
             whole: [0; 3],
             letters: [0; 3],
+            birth_codes: [0; 5],
             full: 0,
             payments: [[0; 4]; 2],
             findings: tables.map(|(name, rules)| Rules { name, rules, counts: vec![0; rules.len()] }),
@@ -92,6 +97,9 @@ impl Tally {
     fn add_key(&mut self, key: &[u8]) {
         if let Some(letter) = LETTERS.iter().position(|letter| *letter == key[53]) {
             self.letters[letter] += 1;
+            let written = key[ack_key::BIRTH_VALIDITY.start];
+            let code = BIRTH_CODES.iter().position(|code| *code == written).expect("a birth code");
+            self.birth_codes[code] += 1;
         }
         self.full += u64::from(key[81..83] == *b"96");
     }
@@ -129,6 +137,9 @@ impl Tally {
         println!("rejected whole  {}", whole.join("  "));
         let letters = LETTERS.iter().zip(self.letters).map(|(letter, n)| line((*letter as char).to_string(), n));
         println!("letters  {}", letters.collect::<Vec<_>>().join("  "));
+        let codes = BIRTH_CODES.iter().zip(self.birth_codes);
+        let codes = codes.map(|(code, n)| line(format!("birth code {}", *code as char), n));
+        println!("{}", codes.collect::<Vec<_>>().join("  "));
         println!("{}", line("documents with 96 Error records".to_string(), self.full));
         for (address, counts) in ADDRESSES.iter().zip(self.payments) {
             let dates = COUNTED_DATES.iter().zip(counts).map(|(date, n)| line(format!("{address} payment {date}"), n));

@@ -159,6 +159,7 @@ fn write_document(
         let form = records[0].record(transmission);
         lay_numbers(&mut key, form);
         ack_key::PIN_PRESENCE.set(&mut key, &[pin_presence(transmission, records)]);
+        ack_key::BIRTH_VALIDITY.set(&mut key, &[records[0].birth_code]);
         if findings == 0 {
             lay_letter(&mut key, records, form::PRIMARY_SSN.of(form), receiver, accepted);
         }

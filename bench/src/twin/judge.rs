@@ -1,8 +1,8 @@
-//! The conditions on a document: each record's findings as a set of places in its rule table.
+//! The conditions on a document: each record's findings as a set of places in its rule table, and a 4868's birth code.
 
 use super::bytes::*;
 use super::layout::{authentication, form, payment, summary};
-use super::pack::{Pack, Taxpayer, control_of, income_of, spans};
+use super::pack::{Pack, Taxpayer, birth_of, control_of, income_of, spans};
 use super::rules;
 use super::walk::{Entry, Kind, Walked};
 
@@ -40,6 +40,7 @@ struct Document<'a> {
     payments: usize,
     all_self_gift: bool,
     all_spouse_gift: bool,
+    first_authentication: Option<&'a [u8; authentication::LENGTH]>,
 }
 
 impl Document<'_> {
@@ -68,6 +69,36 @@ impl Document<'_> {
             && is_significant(form::SELF_GIFT_TAX.of(self.form))
             && !is_significant(form::SPOUSE_GIFT_TAX.of(self.form))
     }
+
+    /// Key 0117: which birth dates of the first ATH are not those of the taxpayer lines. They are only compared for the
+    /// types S and O, with a payment.
+    fn birth_code(&self) -> u8 {
+        let Some(record) = self.first_authentication else {
+            return b'0';
+        };
+        if self.payments == 0 || !is_self_select(authentication::PIN_TYPE.byte(record)) {
+            return b'0';
+        }
+        let primary = authentication::PRIMARY_BIRTH.of(record);
+        let spouse = authentication::SPOUSE_BIRTH.of(record);
+        match (is_other_birth(primary, self.primary), is_other_birth(spouse, self.spouse)) {
+            (true, true) => b'4',
+            (false, true) => b'3',
+            (true, false) => b'2',
+            _ if is_blank(primary) && is_blank(spouse) => b'0',
+            _ => b'1',
+        }
+    }
+}
+
+/// The types of a self-selected PIN.
+fn is_self_select(pin_type: u8) -> bool {
+    matches!(pin_type, b'S' | b'O')
+}
+
+/// Present, and not the birth date of the taxpayer.
+fn is_other_birth(birth: &[u8; 8], taxpayer: Option<&Taxpayer>) -> bool {
+    is_present(birth) && taxpayer.is_none_or(|taxpayer| birth_of(taxpayer) != birth)
 }
 
 /// The findings that stand where `fault` holds.
@@ -98,6 +129,7 @@ pub fn judge(walked: &mut Walked, receiver: &Receiver) {
 
 fn judge_document<'t>(transmission: &'t [u8], records: &mut [Entry], receiver: &Receiver, earlier: &mut Earlier<'t>) {
     let document = prepare(transmission, records, &receiver.pack);
+    records[0].birth_code = document.birth_code();
     let mut payments = 0;
     let mut authentications = 0;
     for entry in records {
@@ -135,6 +167,7 @@ fn prepare<'t>(transmission: &'t [u8], records: &[Entry], pack: &Pack<'t>) -> Do
         payments: 0,
         all_self_gift: true,
         all_spouse_gift: true,
+        first_authentication: None,
     };
     for entry in &records[1..] {
         match entry.kind {
@@ -143,6 +176,9 @@ fn prepare<'t>(transmission: &'t [u8], records: &[Entry], pack: &Pack<'t>) -> Do
                 document.payments += 1;
                 document.all_self_gift &= tax_type == b"0709P";
                 document.all_spouse_gift &= tax_type == b"0709S";
+            }
+            Kind::Authentication => {
+                document.first_authentication.get_or_insert(entry.record(transmission));
             }
             Kind::Summary => document.has_summary = true,
             _ => {}
@@ -291,7 +327,7 @@ fn is_wrong_routing_number(routing_number: &[u8; 9], pack: &Pack) -> bool {
 #[inline(always)]
 fn judge_authentication(record: &[u8; authentication::LENGTH], document: &Document, running: usize) -> u64 {
     let pin_type = authentication::PIN_TYPE.byte(record);
-    let self_select = matches!(pin_type, b'S' | b'O');
+    let self_select = is_self_select(pin_type);
     let jurat = authentication::JURAT.byte(record);
     let wrong_date = |field: &[u8; 8]| is_present(field) && !is_date(field);
     let wrong_pin = |field: &[u8; 5]| is_present(field) && (!is_digits(field) || is_zeros(field));

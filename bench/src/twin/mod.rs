@@ -1,6 +1,6 @@
-//! The independent receiver: document 01 with the request on foreign payments, in safe Rust, written for speed. Nothing
-//! is allocated: the walk notes each record's place and kind in a row on the stack, the judgment adds the set of its
-//! findings, the length follows from the counts, and the file is written in one go.
+//! The independent receiver: document 01 with the requests on foreign payments and on birth dates, in safe Rust, written
+//! for speed. Nothing is allocated: the walk notes each record's place and kind in a row on the stack, the judgment adds
+//! the set of its findings and a 4868's birth code, the length follows from the counts, and the file is written in one go.
 
 #![forbid(unsafe_code)]
 

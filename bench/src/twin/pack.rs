@@ -70,6 +70,10 @@ pub fn control_of(taxpayer: &Taxpayer) -> &[u8; 4] {
     taxpayer[9..].first_chunk().unwrap()
 }
 
+pub fn birth_of(taxpayer: &Taxpayer) -> &[u8; 8] {
+    taxpayer[13..].first_chunk().unwrap()
+}
+
 pub fn income_of(taxpayer: &Taxpayer) -> &[u8; 12] {
     taxpayer.last_chunk().unwrap()
 }

@@ -27,16 +27,17 @@ impl Kind {
     }
 }
 
-/// A record: where it starts, what it is, and the set of its findings.
+/// A record: where it starts, what it is, the set of its findings, and of a 4868 what Key 0117 says on birth dates.
 #[derive(Clone, Copy)]
 pub struct Entry {
     pub start: u32,
     pub kind: Kind,
+    pub birth_code: u8,
     pub findings: u64,
 }
 
 impl Entry {
-    pub const NONE: Entry = Entry { start: 0, kind: Kind::Recap, findings: 0 };
+    pub const NONE: Entry = Entry { start: 0, kind: Kind::Recap, birth_code: b'0', findings: 0 };
 
     #[inline(always)]
     pub fn record<'t, const LENGTH: usize>(&self, transmission: &'t [u8]) -> &'t [u8; LENGTH] {
@@ -128,7 +129,7 @@ pub fn walk<'t, 'e>(transmission: &'t [u8], entries: &'e mut [Entry]) -> Option<
             Kind::Recap => break,
         }
         let start = (transmission.len() - rest.len()) as u32;
-        entries[count] = Entry { start, kind, findings: 0 };
+        entries[count] = Entry { start, kind, ..Entry::NONE };
         count += 1;
         rest = &rest[length..];
     }

@@ -16,7 +16,7 @@ use Rattle.paper.specs.Bytes.{Bytes, any, joined, digits, firstOr}
 use Rattle.paper.specs.Layouts.{entry, field}
 use Rattle.paper.specs.Pack.{Lines, banks}
 use Rattle.paper.specs.Walk.{records, Doc, docsOf, kindOf, is, opens}
-use Rattle.paper.specs.Judge.{Before, Finding, Item, Turn, turns, asked, after, afterKnown, seen, attached, ifKnown, itemOf, known, sightOf, findsFrom, findings, letterOf, isA}
+use Rattle.paper.specs.Judge.{Before, Finding, Item, Turn, turns, asked, after, afterKnown, seen, attached, ifKnown, itemOf, known, sightOf, findsFrom, findings, letterOf, birthsOf, isA}
 use Rattle.paper.specs.File.{onAuth, setBy, orZeros, setOf}
 use Rattle.paper.proofs.Laws.{never, part-take}
 use Rattle.paper.proofs.KindLaws.{kind-length}
@@ -47,11 +47,11 @@ unfolding field
 field-take n k s h = part-take n (entry L4868 k .start) (entry L4868 k .width) s (omega (arith, entry-low L4868 k))
 
 -- of an unknown form they are not shown
-set-main : (main main' : Bytes) (b : Bool) (date : Bytes) (l : Letter) (f : Facts) (found : List Finding) (ath : Bool)
-    → (b ≡ true → (k : ℕ) → field L4868 k main ≡ field L4868 k main') → setBy main b date l f found ath ≡ setBy main' b date l f found ath
+set-main : (main main' : Bytes) (b : Bool) (date : Bytes) (l : Letter) (f : Facts) (found : List Finding) (ath : Bool) (births : ℕ)
+    → (b ≡ true → (k : ℕ) → field L4868 k main ≡ field L4868 k main') → setBy main b date l f found ath births ≡ setBy main' b date l f found ath births
 unfolding setBy orZeros
-set-main main main' true date l f found ath e = rw (e refl 90, e refl 7, e refl 8)
-set-main main main' false date l f found ath e = refl
+set-main main main' true date l f found ath births e = rw (e refl 90, e refl 7, e refl 8)
+set-main main main' false date l f found ath births e = refl
 
 identity-main : (main main' : Bytes) → ((k : ℕ) → field L4868 k main ≡ field L4868 k main') → identityOf main ≡ identityOf main'
 unfolding identityOf
@@ -157,6 +157,10 @@ module _ (L : Lines) (date t : Bytes) (at : ℕ) (p : Past) (row : List ℕ) (g 
   unfolding judgmentOf
   facts-are = ap (λ (x : Judgment). x .facts) ej
 
+  births-are : j .births ≡ birthsOf T
+  unfolding judgmentOf
+  births-are = ap (λ (x : Judgment). x .births) ej
+
   form-size : known d ≡ true → length (d .main) ≡ 384
   form-size h = kind-length Form 384 (d .main) refl h
 
@@ -191,13 +195,13 @@ module _ (L : Lines) (date t : Bytes) (at : ℕ) (p : Past) (row : List ℕ) (g 
       rows-back t (brokeIn at T) (findings T) list x (j .found) w e counts full found-is count-is in
       let few : length (take 96 (findings T)) ≡ min 96 (j .found .kept) = omega (arith, kept-is, length-take 96 (findings T)) in
       set-said (take (at + size - at) s) t date j x (take 96 (findings T)) own-here found few
-      ∙ set-main (take (at + size - at) s) (d .main) (j .known) date (j .letter) (j .facts) (take 96 (findings T)) (j .found .ath) same-fields
-      ∙ (λ i. setBy (d .main) (known-is i) date (said i) (facts-are i) (take 96 (findings T)) (ath-is i))
+      ∙ set-main (take (at + size - at) s) (d .main) (j .known) date (j .letter) (j .facts) (take 96 (findings T)) (j .found .ath) (j .births) same-fields
+      ∙ (λ i. setBy (d .main) (known-is i) date (said i) (facts-are i) (take 96 (findings T)) (ath-is i) (births-are i))
 
   pub set-size : length (setOf T) ≡ 120 + 120 * j .found .kept
   unfolding setOf
   set-size =
-      length-setBy (d .main) (known d) date (letterOf T) (sightOf T .whole) (take 96 (findings T)) (any onAuth (findings T))
+      length-setBy (d .main) (known d) date (letterOf T) (sightOf T .whole) (take 96 (findings T)) (any onAuth (findings T)) (birthsOf T)
       ∙ ap (λ (k : ℕ). 120 + 120 * k) (sym kept-is)
 
   -- WHAT IT LEAVES

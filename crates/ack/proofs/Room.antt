@@ -11,7 +11,7 @@ use Rattle.paper.specs.Bytes.{Bytes, any, bit, count, those}
 use Rattle.paper.specs.Pack.{Lines}
 use Rattle.paper.specs.Walk.{Doc, countOf, starts, records, named, kindOf, is, opens, own, docsOf}
 use Rattle.paper.specs.Conditions.{View, view, rulesOf, holds}
-use Rattle.paper.specs.Judge.{Before, Finding, Turn, known, itemOf, ifKnown, asked, mark, findsIn, findsFrom, findings, turn, turns, after, letterOf, sightOf}
+use Rattle.paper.specs.Judge.{Before, Finding, Turn, known, itemOf, ifKnown, asked, mark, findsIn, findsFrom, findings, turn, turns, after, letterOf, birthsOf, sightOf}
 use Rattle.paper.specs.File.{onAuth, setOf}
 use Rattle.walk.proofs.Records.{starts-bounds, records-end, records-more, records-none, record-length, along}
 use Rattle.paper.proofs.Laws.{never}
@@ -69,7 +69,7 @@ finds-one Stray v o f = absurd (never o)
 module _ (L : Lines) (date : Bytes) where
   set-length : (t : Turn) → length (setOf t) ≡ 120 + 120 * length (take 96 (findings t))
   unfolding setOf
-  set-length t = length-setBy (t .subject .doc .main) (known (t .subject .doc)) (t .date) (letterOf t) (sightOf t .whole) (take 96 (findings t)) (any onAuth (findings t))
+  set-length t = length-setBy (t .subject .doc .main) (known (t .subject .doc)) (t .date) (letterOf t) (sightOf t .whole) (take 96 (findings t)) (any onAuth (findings t)) (birthsOf t)
 
   unknown-few : (b : Before) (d : Doc) → opens (kindOf (d .main)) ≡ true → known d ≡ false → length (findings (turn date b (asked L d))) ≤ 1
   unfolding findings

@@ -16,11 +16,11 @@ use Rattle.paper.specs.declared.Layout.the-variants.{L4868, LPayment}
 use Rattle.paper.specs.declared.Letter.{Letter}
 use Rattle.paper.specs.declared.Letter.the-variants.{R, D}
 use Rattle.paper.specs.Bytes.{Bytes, bit, every, those, empty, member, firstOr, written}
-use Rattle.paper.specs.Layouts.{form4868, entry, field}
+use Rattle.paper.specs.Layouts.{form4868, authentication, entry, field}
 use Rattle.paper.specs.Pack.{Lines, linesIn}
 use Rattle.paper.specs.Walk.{Doc, kindOf, is, opens, goesOn}
-use Rattle.paper.specs.Conditions.{Sight, View, sight, view, formRules}
-use Rattle.paper.specs.Judge.{Case, Turn, known, ssnOf, spouseOf, stateOf, itemOf, ifKnown, asked, findings, letterBy, twice, letterOf, sightOf, turn}
+use Rattle.paper.specs.Conditions.{Sight, View, sight, view, firstAuth, comparesBirths, birthByte, formRules}
+use Rattle.paper.specs.Judge.{Case, Turn, known, ssnOf, spouseOf, stateOf, itemOf, ifKnown, asked, findings, letterBy, twice, letterOf, birthsOf, sightOf, turn}
 use Rattle.paper.proofs.Laws.{never}
 use Rattle.paper.proofs.KindLaws.{is-eq}
 use Rattle.lookup.specs.Find.{lineIn, rowsIn}
@@ -29,7 +29,7 @@ use Rattle.words.specs.Past.{identityOf, noIdentity, earlier}
 use Rattle.form.specs.Breaks.{breaks}
 use Rattle.walk.specs.declared.Extent.{Extent}
 use Rattle.walk.specs.Heads.{front}
-use Rattle.walk.specs.Parts.{docIf, docHere, extentOf}
+use Rattle.walk.specs.Parts.{docIf, docHere, ownIn, extentOf}
 use Rattle.walk.proofs.Docs.{own-goes}
 use Rattle.walk.proofs.Records.{kind-none}
 use Rattle.walk.proofs.Laws.{as-part}
@@ -38,7 +38,7 @@ use Rattle.judge.specs.declared.Past.{Past}
 use Rattle.judge.specs.declared.Judged.{Judged}
 use Rattle.judge.specs.Kept.{Broke, brokeIf, noFindings, Held, held, listed, counted, keptOf, added}
 use Rattle.judge.specs.Seen.{numbersIn, seenBy, nextPast, nextRow, rowAfter}
-use Rattle.judge.specs.Judged.{oneLine, searched, bankFor, itemIn, setIn, brokeFrom, sightIn, formBroke, brokeIn, judgmentOf, judgedOf}
+use Rattle.judge.specs.Judged.{oneLine, searched, bankFor, itemIn, setIn, brokeFrom, sightIn, formBroke, formBirths, brokeIn, judgmentOf, judgedOf}
 use Rattle.judge.proofs.Kept.{added-none, added-append, none-few, held-counted, held-listed}
 use Rattle.judge.proofs.Found.{others-same, empty-found}
 
@@ -117,6 +117,18 @@ module _ (t : Bytes) (at : ℕ) (form taxpayers banks states date : Bytes) (p : 
       ∙ (λ i. keptOf row (brokeIf at (sym kind i) (setIn (sym kind i) (view (sightIn (d .main) taxpayers states date p whole) (d .main) [] 0 0))
       ++ brokeFrom (sightIn (d .main) taxpayers states date p whole) (at + length (d .main)) (0 + bit (is Payment (sym kind i))) (0 + bit (is Auth (sym kind i))) (map (itemIn banks) (d .others))))
 
+-- field 0117 of it
+pub births-found : (t : Bytes) (at : ℕ) (form taxpayers : Bytes) (whole : Facts) → is Form (kindOf (docHere (drop at t) .main)) ≡ true → form ≡ docHere (drop at t) .main
+    → (f90 f100 payer spouse : Bytes) (v : ℕ) → f90 ≡ field L4868 90 form → payer ≡ lineIn 33 f90 taxpayers → f100 ≡ field L4868 100 form → spouse ≡ lineIn 33 f100 taxpayers
+    → v ≡ birthByte (firstAuth (ownIn (drop (at + length form) t))) payer spouse (whole .pays) → v ≡ formBirths (docHere (drop at t)) taxpayers whole
+births-found t at form taxpayers whole k ef f90 f100 payer spouse v e90 e-payer e100 e-spouse ev =
+    let d = docHere (drop at t) in
+    let o : ownIn (drop (at + length form) t) ≡ d .others =
+    ap (λ (m : Bytes). ownIn (drop (at + length m) t)) ef ∙ sym (others-here t at (ap (λ (c : Bool). c || is Unknown (kindOf (d .main))) k)) in
+    let x : payer ≡ lineIn 33 (ssnOf d) taxpayers = e-payer ∙ ap (λ (key : Bytes). lineIn 33 key taxpayers) (e90 ∙ ap (field L4868 90) ef) in
+    let y : spouse ≡ lineIn 33 (spouseOf d) taxpayers = e-spouse ∙ ap (λ (key : Bytes). lineIn 33 key taxpayers) (e100 ∙ ap (field L4868 100) ef) in
+    ev ∙ (λ i. birthByte (firstAuth (o i)) (x i) (y i) (whole .pays))
+
 -- WHAT THE PACK SAYS OF A DOCUMENT
 
 first-one : (l : Bytes) → firstOr (oneLine l) ≡ l
@@ -182,10 +194,10 @@ module _ (t date : Bytes) (at : ℕ) (p : Past) (row : List ℕ) (k : Bool) (L :
   turn-is : T ≡ U
   turn-is = ap (λ (c : Case). turn date (seenBy p row) c) (sym (asked-if k L doc known-is))
 
-  module _ (found : Findings) (own : Identity) (letter : Letter) (next : Past) (row' : List ℕ) (list x : List (List ℕ))
-      (e-held : held x found ≡ keptOf list (brokeIn at T)) (e-own : own ≡ cond k (identityOf (doc .main)) noIdentity) (e-letter : letter ≡ letterOf T)
+  module _ (found : Findings) (own : Identity) (letter : Letter) (births : ℕ) (next : Past) (row' : List ℕ) (list x : List (List ℕ))
+      (e-held : held x found ≡ keptOf list (brokeIn at T)) (e-own : own ≡ cond k (identityOf (doc .main)) noIdentity) (e-letter : letter ≡ letterOf T) (e-births : births ≡ birthsOf T)
       (e-past : next ≡ cond k (nextPast (identityOf (doc .main)) letter p row) p) (e-row : row' ≡ cond k (nextRow (identityOf (doc .main)) letter p row) row) where
-    pub judged-is : _≡_ {A = Judged} (record { judgment = record { size = e .size; letter = letter; known = k; identity = own; found = found; facts = e .facts }; past = next }) (judgedOf at U p row)
+    pub judged-is : _≡_ {A = Judged} (record { judgment = record { size = e .size; letter = letter; known = k; identity = own; found = found; facts = e .facts; births = births }; past = next }) (judgedOf at U p row)
     unfolding judgmentOf extentOf
     judged-is =
         (λ i. record {
@@ -196,6 +208,7 @@ module _ (t date : Bytes) (at : ℕ) (p : Past) (row : List ℕ) (k : Bool) (L :
             identity = (e-own ∙ ap (λ (b : Bool). cond b (identityOf (doc .main)) noIdentity) (sym known-is)) i;
             found = held-counted list x (brokeIn at T) found e-held i;
             facts = ee i .facts;
+            births = e-births i;
           };
           past = (e-past ∙ (λ j. cond (sym known-is j) (nextPast (identityOf (doc .main)) (e-letter j) p row) p)) i;
         })
@@ -231,10 +244,17 @@ module _ (t taxpayers banks filed states date : Bytes) (at : ℕ) (p : Past) (ro
   unfolding brokeIn
   form-broke = λ i. brokeFrom (sight-is i) at 0 0 (record { bytes = docHere (drop at t) .main; bank = [] } ∷ items-are taxpayers banks filed states (docHere (drop at t) .others) i)
 
-  module _ (form : Bytes) (found : Findings) (own : Identity) (letter : Letter) (next : Past) (row' : List ℕ) (list x : List (List ℕ)) (ef : form ≡ docHere (drop at t) .main)
+  births-are : (v : ℕ) → v ≡ formBirths (docHere (drop at t)) taxpayers (e .facts) → v ≡ birthsOf K
+  unfolding birthsOf extentOf
+  births-are v ev =
+      let d = docHere (drop at t) in
+      ev
+      ∙ (λ i. birthByte (firstAuth (cond (sym k i) (d .others) [])) (sym (searched-taxpayer taxpayers banks filed states (ssnOf d)) i) (sym (searched-taxpayer taxpayers banks filed states (spouseOf d)) i) (ee i .facts .pays))
+
+  module _ (form : Bytes) (found : Findings) (own : Identity) (letter : Letter) (births : ℕ) (next : Past) (row' : List ℕ) (list x : List (List ℕ)) (ef : form ≡ docHere (drop at t) .main)
       (e-own : own ≡ identityOf form) (e-found : held x found ≡ keptOf list (formBroke at (docHere (drop at t)) taxpayers banks states date p (e .facts)))
       (e-letter : letter ≡ letterBy (eqb (found .rows) 0) (not (empty (lineIn 9 (field L4868 90 form) filed)) || member (field L4868 90 form) (numbersIn (take (p .n) row))))
-      (e-past : next ≡ nextPast own letter p row) (e-row : row' ≡ nextRow own letter p row) where
+      (e-births : births ≡ formBirths (docHere (drop at t)) taxpayers (e .facts)) (e-past : next ≡ nextPast own letter p row) (e-row : row' ≡ nextRow own letter p row) where
     e-held : held x found ≡ keptOf list (brokeIn at K)
     e-held = e-found ∙ ap (keptOf list) form-broke
 
@@ -245,16 +265,16 @@ module _ (t taxpayers banks filed states date : Bytes) (at : ℕ) (p : Past) (ro
         ∙ (λ i. letterBy (clean-same t date at p row true Z e ee k found (held-counted list x (brokeIn at K) found e-held) i) (not (empty (lineIn 9 (field L4868 90 (ef i)) filed)) || member (field L4868 90 (ef i)) (numbersIn (take (p .n) row))))
         ∙ (λ i. letterBy (empty (findings K)) (not (empty (sym (searched-filed taxpayers banks filed states (ssnOf (docHere (drop at t)))) i)) || member (ssnOf (docHere (drop at t))) (numbersIn (take (p .n) row))))
 
-    pub form-judged : (record { judgment = record { size = e .size; letter = letter; known = true; identity = own; found = found; facts = e .facts }; past = next } ≡ judgedOf at (turn date (seenBy p row) (asked (searched taxpayers banks filed states) (docHere (drop at t)))) p row)
+    pub form-judged : (record { judgment = record { size = e .size; letter = letter; known = true; identity = own; found = found; facts = e .facts; births = births }; past = next } ≡ judgedOf at (turn date (seenBy p row) (asked (searched taxpayers banks filed states) (docHere (drop at t)))) p row)
         × (row' ≡ rowAfter (turn date (seenBy p row) (asked (searched taxpayers banks filed states) (docHere (drop at t)))) p row)
         × (x ≡ listed list (brokeIn at (turn date (seenBy p row) (asked (searched taxpayers banks filed states) (docHere (drop at t))))))
     form-judged =
         let o : own ≡ identityOf (docHere (drop at t) .main) = e-own ∙ ap identityOf ef in
         let q : next ≡ nextPast (identityOf (docHere (drop at t) .main)) letter p row = e-past ∙ ap (λ (y : Identity). nextPast y letter p row) o in
         let w : row' ≡ nextRow (identityOf (docHere (drop at t) .main)) letter p row = e-row ∙ ap (λ (y : Identity). nextRow y letter p row) o in (
-          judged-is t date at p row true Z e ee k found own letter next row' list x e-held o letter-is q w,
-          row-is t date at p row true Z e ee k found own letter next row' list x e-held o letter-is q w,
-          list-is t date at p row true Z e ee k found own letter next row' list x e-held o letter-is q w,
+          judged-is t date at p row true Z e ee k found own letter births next row' list x e-held o letter-is (births-are births e-births) q w,
+          row-is t date at p row true Z e ee k found own letter births next row' list x e-held o letter-is (births-are births e-births) q w,
+          list-is t date at p row true Z e ee k found own letter births next row' list x e-held o letter-is (births-are births e-births) q w,
         )
 
 -- of any other: nothing is looked up, and nothing but the first record is judged
@@ -341,12 +361,17 @@ module _ (t date : Bytes) (at : ℕ) (p : Past) (row : List ℕ) (L : Lines) (e 
           some false z = refl
       by false u = ap (letterBy (empty (findings N))) (sym (ap (λ (m : Bytes). member (field L4868 90 m) (numbersIn (take (p .n) row))) (no-bytes t at k u) ∙ ap (λ (m : Bytes). member m (numbersIn (take (p .n) row))) no-field ∙ member-none (take (p .n) row)))
 
-  pub other-judged : (record { judgment = record { size = e .size; letter = letter; known = false; identity = noIdentity; found = found; facts = e .facts }; past = p } ≡ judgedOf at (turn date (seenBy p row) (asked L (docHere (drop at t)))) p row)
+  -- without an authentication no birth date is compared
+  no-births : 48 ≡ birthsOf N
+  unfolding birthsOf birthByte comparesBirths field entry authentication
+  no-births = ap (λ (b : Bool). birthByte (firstAuth (cond b (docHere (drop at t) .others) [])) [] [] (sightOf N .whole .pays)) (sym k)
+
+  pub other-judged : (record { judgment = record { size = e .size; letter = letter; known = false; identity = noIdentity; found = found; facts = e .facts; births = 48 }; past = p } ≡ judgedOf at (turn date (seenBy p row) (asked L (docHere (drop at t)))) p row)
       × (row ≡ rowAfter (turn date (seenBy p row) (asked L (docHere (drop at t)))) p row) × (x ≡ listed list (brokeIn at (turn date (seenBy p row) (asked L (docHere (drop at t))))))
   other-judged = (
-    judged-is t date at p row false L e ee k found noIdentity letter p row list x other-held refl other-letter refl refl,
-    row-is t date at p row false L e ee k found noIdentity letter p row list x other-held refl other-letter refl refl,
-    list-is t date at p row false L e ee k found noIdentity letter p row list x other-held refl other-letter refl refl,
+    judged-is t date at p row false L e ee k found noIdentity letter 48 p row list x other-held refl other-letter no-births refl refl,
+    row-is t date at p row false L e ee k found noIdentity letter 48 p row list x other-held refl other-letter no-births refl refl,
+    list-is t date at p row false L e ee k found noIdentity letter 48 p row list x other-held refl other-letter no-births refl refl,
   )
 
 -- WHAT THE CODE KNOWS OF THE FIRST RECORD

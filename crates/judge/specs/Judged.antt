@@ -14,8 +14,8 @@ use Rattle.paper.specs.Bytes.{Bytes, bit}
 use Rattle.paper.specs.Layouts.{field}
 use Rattle.paper.specs.Pack.{Lines, linesIn}
 use Rattle.paper.specs.Walk.{is, kindOf, Doc}
-use Rattle.paper.specs.Conditions.{Sight, View, sight, view, ofKind, factsOf, holds, rulesOf}
-use Rattle.paper.specs.Judge.{Item, Turn, known, letterOf, sightOf}
+use Rattle.paper.specs.Conditions.{Sight, View, sight, view, ofKind, firstAuth, factsOf, birthByte, holds, rulesOf}
+use Rattle.paper.specs.Judge.{Item, Turn, known, ssnOf, spouseOf, letterOf, birthsOf, sightOf}
 use Rattle.words.specs.Sets.{bitsBy}
 use Rattle.words.specs.Past.{identityOf, noIdentity, earlier}
 use Rattle.lookup.specs.Find.{lineIn, rowsIn}
@@ -70,6 +70,10 @@ abbrev pub formBroke : ℕ → Doc → Bytes → Bytes → Bytes → Bytes → P
 formBroke at d taxpayers banks states date p whole =
     brokeFrom (sightIn (d .main) taxpayers states date p whole) at 0 0 (record { bytes = d .main; bank = [] } ∷ map (itemIn banks) (d .others))
 
+-- field 0117 of a 4868 document
+abbrev pub formBirths : Doc → Bytes → Facts → ℕ
+formBirths d taxpayers whole = birthByte (firstAuth (d .others)) (lineIn 33 (ssnOf d) taxpayers) (lineIn 33 (spouseOf d) taxpayers) (whole .pays)
+
 -- after a record of this kind
 abbrev pub counts : Before → Kind → Before
 counts b k = record { pays = b .pays + bit (is Payment k); aths = b .aths + bit (is Auth k) }
@@ -92,6 +96,7 @@ judgmentOf at t = record {
   identity = identityIn (t .subject .doc);
   found = counted (brokeIn at t);
   facts = factsOf (t .subject .doc .main ∷ t .subject .doc .others);
+  births = birthsOf t;
 }
 
 -- and what it leaves

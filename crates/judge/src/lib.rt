@@ -1,4 +1,5 @@
-// One document's judgment: its letter, its numbers, its findings and its facts; and what it leaves for the later ones to see.
+// One document's judgment: its letter, its numbers, its findings, its facts and its birth dates; and what it leaves for the later ones to
+// see.
 use paper::Findings;
 use paper::Identity;
 use paper::Judgment;
@@ -25,7 +26,7 @@ ghost use Rattle.walk.specs.Parts.{docHere, extentOf};
 ghost use Rattle.judge.specs.Kept.{brokeIf, noFindings, held, keptOf, added, listed};
 ghost use Rattle.words.specs.Past.{identityOf};
 ghost use Rattle.judge.specs.Seen.{numbersIn, seenBy, noPast, numberAfter, nextPast, nextRow, rowAfter};
-ghost use Rattle.judge.specs.Judged.{searched, bankFor, itemIn, brokeFrom, formBroke, brokeIn, counts, judgedOf};
+ghost use Rattle.judge.specs.Judged.{searched, bankFor, itemIn, brokeFrom, formBroke, formBirths, brokeIn, counts, judgedOf};
 
 // What the earlier documents leave: the nearest 0007 and 0008 that are digits, 0 for none, else the number and 1; and how many got A.
 pub struct Past {
@@ -40,10 +41,11 @@ pub struct Judged {
     pub past: Past,
 }
 
-// The findings of a 4868 document, and the numbers of its form.
+// The findings of a 4868 document, the numbers of its form, and field 0117.
 struct Formed {
     found: Findings,
     identity: Identity,
+    births: u8,
 }
 
 fn field_of(n: u32, form: &[u8]) -> &[u8]
@@ -255,6 +257,7 @@ fn of_form(
     requires { ⌜ (doc ≡ extentOf (drop at (now t))) × (is Form (kindOf (docHere (drop at (now t)) .main)) ≡ true) × (now form ≡ docHere (drop at (now t)) .main) ⌝ }
     ensures { λ r. ⌜ r .identity ≡ identityOf (now (form .entry)) ⌝ }
     ensures { λ r. ⌜ held (now (list .exit)) (r .found) ≡ keptOf (now (list .entry)) (formBroke at (docHere (drop at (now (t .entry)))) (now (taxpayers .entry)) (now (banks .entry)) (now (states .entry)) (now (date .entry)) past (doc .facts)) ⌝ }
+    ensures { λ r. ⌜ r .births ≡ formBirths (docHere (drop at (now (t .entry)))) (now (taxpayers .entry)) (doc .facts) ⌝ }
 {
     let payer = lookup::line_of(taxpayers, 33, field_of(90, form));
     let spouse = lookup::line_of(taxpayers, 33, field_of(100, form));
@@ -272,7 +275,12 @@ fn of_form(
     let identity = reading.identity;
     let first = collected(no_findings(), at, Kind::Form, reading.set, list);
     let found = with_others(t, at, doc, form, payer, spouse, banks, first, list);
-    Formed { found, identity }
+    let births = births::birth_byte(t, at + form.len(), payer, spouse, doc.facts.pays);
+    Formed {
+        found,
+        identity,
+        births,
+    }
 }
 
 // The first record of any other document: an unknown form breaks its one rule.
@@ -350,6 +358,7 @@ pub fn judge(
                 identity: paper::NO_IDENTITY,
                 found,
                 facts,
+                births: b'0',
             },
             past,
         };
@@ -369,6 +378,7 @@ pub fn judge(
             identity,
             found,
             facts,
+            births: formed.births,
         },
         past: next,
     }

@@ -30,8 +30,8 @@ here : (r : Bytes) (at v : ℕ) → at < length r → getD (laid r at (v ∷ [])
 unfolding laid
 here r at v h = getD-set-same r at v 0 h
 
-module _ (ssn sequence : Bytes) (v : Verdict) (pin : ℕ) (date control : Bytes) (errors : ℕ) (literal : Bytes) where
-  key-letter : getD (keyRecord ssn sequence v pin date control errors literal) 53 0 ≡ verdictByte v
+module _ (ssn sequence : Bytes) (v : Verdict) (pin : ℕ) (date control : Bytes) (errors : ℕ) (literal : Bytes) (births : ℕ) where
+  key-letter : getD (keyRecord ssn sequence v pin date control errors literal births) 53 0 ≡ verdictByte v
   unfolding keyRecord recordOf entry ackKey
   key-letter =
       behind _ _ _ _ _ (omega arith)
@@ -44,17 +44,17 @@ module _ (ssn sequence : Bytes) (v : Verdict) (pin : ℕ) (date control : Bytes)
       (behind _ _ _ _ _ (omega arith)
       (here _ _ _ (simp length-laid (omega arith))))))))))
 
-  field-letter : (more : Bytes) → field LKey 50 (keyRecord ssn sequence v pin date control errors literal ++ more) ≡ verdictByte v ∷ []
+  field-letter : (more : Bytes) → field LKey 50 (keyRecord ssn sequence v pin date control errors literal births ++ more) ≡ verdictByte v ∷ []
   unfolding field entry ackKey
   field-letter more =
-      let k : Bytes = keyRecord ssn sequence v pin date control errors literal in
-      let n : length k ≡ 120 = length-key ssn sequence v pin date control errors literal in
+      let k : Bytes = keyRecord ssn sequence v pin date control errors literal births in
+      let n : length k ≡ 120 = length-key ssn sequence v pin date control errors literal births in
       take-next 0 53 (k ++ more) (omega (arith, length-append k more))
       ∙ ap (λ (x : ℕ). x ∷ []) (List·getD-append k more 0 53 (omega arith) ∙ key-letter)
 
 pub letter-shown : (t : Turn) → field LKey 50 (setOf t) ≡ letterByte (letterOf t) ∷ []
 unfolding setOf setBy
-letter-shown t = field-letter _ _ _ _ _ _ _ _ _
+letter-shown t = field-letter _ _ _ _ _ _ _ _ _ _
 
 by-letter : (l : Letter) → same (letterByte l ∷ []) (bytes "A") ≡ isA l
 by-letter A = refl

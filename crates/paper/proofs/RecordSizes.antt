@@ -23,10 +23,10 @@ length-recordOf : (l : Layout) (fs : List (ℕ × Bytes)) → length (recordOf l
 unfolding recordOf
 length-recordOf l fs = simp (length-laid, length-fields)
 
-pub length-key : (ssn sequence : Bytes) (v : Verdict) (pin : ℕ) (date control : Bytes) (errors : ℕ) (literal : Bytes)
-    → length (keyRecord ssn sequence v pin date control errors literal) ≡ 120
+pub length-key : (ssn sequence : Bytes) (v : Verdict) (pin : ℕ) (date control : Bytes) (errors : ℕ) (literal : Bytes) (births : ℕ)
+    → length (keyRecord ssn sequence v pin date control errors literal births) ≡ 120
 unfolding keyRecord
-length-key ssn sequence v pin date control errors literal = length-recordOf _ _
+length-key ssn sequence v pin date control errors literal births = length-recordOf _ _
 
 pub length-error : (ssn : Bytes) (n : ℕ) (id type page occurrence : Bytes) (rule : ℕ) → length (errorRecord ssn n id type page occurrence rule) ≡ 120
 unfolding errorRecord

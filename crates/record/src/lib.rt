@@ -12,11 +12,12 @@ ghost use Rattle.paper.specs.Layouts.{entry};
 ghost use Rattle.paper.specs.File.{letterByte, verdictByte, keyRecord, recapRecord};
 ghost use Rattle.record.specs.Parts.{started, ended, counted, errorModel, errorBy, placed};
 
-// What a Key says of its document: the verdict, field 0065 and the number of Error records.
+// What a Key says of its document: the verdict, field 0065, the number of Error records and field 0117.
 pub struct Marks {
     pub verdict: Verdict,
     pub pin: u8,
     pub errors: u32,
+    pub births: u8,
 }
 
 // Four bytes of a text, from a place of it on.
@@ -150,7 +151,7 @@ fn lay_key(
     literal: &[u8],
 )
     requires { ⌜ length (now r) ≡ 120 ⌝ }
-    ensures { λ _. ⌜ now (r .exit) ≡ keyRecord (now (ssn .entry)) (now (sequence .entry)) (marks .verdict) (marks .pin) (now (date .entry)) (now (control .entry)) (marks .errors) (now (literal .entry)) ⌝ }
+    ensures { λ _. ⌜ now (r .exit) ≡ keyRecord (now (ssn .entry)) (now (sequence .entry)) (marks .verdict) (marks .pin) (now (date .entry)) (now (control .entry)) (marks .errors) (now (literal .entry)) (marks .births) ⌝ }
 {
     let v = marks.verdict;
     let verdict = verdict_byte(v);
@@ -164,7 +165,7 @@ fn lay_key(
     lay_two(r, Layout::LKey, 100, marks.errors);
     lay_field(r, Layout::LKey, 110, b"00");
     lay_field(r, Layout::LKey, 115, literal);
-    lay_byte(r, Layout::LKey, 117, b'0');
+    lay_byte(r, Layout::LKey, 117, marks.births);
     end(r)
 }
 
@@ -248,7 +249,7 @@ pub fn put_key(
     control: &[u8],
     literal: &[u8],
 )
-    ensures { λ _. ⌜ now (out .exit) ≡ placed (now (out .entry)) at (keyRecord (now (ssn .entry)) (now (sequence .entry)) (marks .verdict) (marks .pin) (now (date .entry)) (now (control .entry)) (marks .errors) (now (literal .entry))) ⌝ }
+    ensures { λ _. ⌜ now (out .exit) ≡ placed (now (out .entry)) at (keyRecord (now (ssn .entry)) (now (sequence .entry)) (marks .verdict) (marks .pin) (now (date .entry)) (now (control .entry)) (marks .errors) (now (literal .entry)) (marks .births)) ⌝ }
 {
     if !fits(120, out.len(), at) {
         return;

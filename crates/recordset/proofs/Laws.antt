@@ -65,16 +65,16 @@ module _ (main : Bytes) (known : Bool) (x : Identity) (e : x ≡ cond known (ide
   dcn-said : shownAs (x .dcn) 14 (field L4868 8 main) ≡ orZeros known 14 (field L4868 8 main)
   dcn-said = ap (λ (y : Identity). shownAs (y .dcn) 14 (field L4868 8 main)) numbers-are ∙ shown-said known 14 (field L4868 8 main)
 
-  pub set-parts : (date : Bytes) (l : Letter) (f : Facts) (found : List Finding) (athFound : Bool)
-      → keyOf main known x date l f (length found) athFound ++ errorsFrom (shownAs (x .ssn) 9 (field L4868 90 main)) 1 found ≡ setBy main known date l f found athFound
+  pub set-parts : (date : Bytes) (l : Letter) (f : Facts) (found : List Finding) (athFound : Bool) (births : ℕ)
+      → keyOf main known x date l f (length found) athFound births ++ errorsFrom (shownAs (x .ssn) 9 (field L4868 90 main)) 1 found ≡ setBy main known date l f found athFound births
   unfolding setBy keyOf
-  set-parts date l f found athFound = λ i.
-      keyRecord (ssn-said i) (dsn-said i) (Judged l) (pinByte known athFound f) (dateFor l date) (dcn-said i) (length found) (literalFor l f) ++ errorsFrom (ssn-said i) 1 found
+  set-parts date l f found athFound births = λ i.
+      keyRecord (ssn-said i) (dsn-said i) (Judged l) (pinByte known athFound f) (dateFor l date) (dcn-said i) (length found) (literalFor l f) births ++ errorsFrom (ssn-said i) 1 found
 
-pub length-keyOf : (main : Bytes) (known : Bool) (x : Identity) (date : Bytes) (l : Letter) (f : Facts) (errors : ℕ) (athFound : Bool)
-    → length (keyOf main known x date l f errors athFound) ≡ 120
+pub length-keyOf : (main : Bytes) (known : Bool) (x : Identity) (date : Bytes) (l : Letter) (f : Facts) (errors : ℕ) (athFound : Bool) (births : ℕ)
+    → length (keyOf main known x date l f errors athFound births) ≡ 120
 unfolding keyOf
-length-keyOf main known x date l f errors athFound = length-key _ _ _ _ _ _ _ _
+length-keyOf main known x date l f errors athFound births = length-key _ _ _ _ _ _ _ _ _
 
 pub length-errorOf : (ssn : Bytes) (n : ℕ) (x : Finding) → length (errorOf ssn n x) ≡ 120
 unfolding errorOf
@@ -87,13 +87,13 @@ length-errorsFrom ssn n (x ∷ xs) =
     ∙ omega (arith, length-errorOf ssn n x, length-errorsFrom ssn (n + 1) xs)
 
 -- 120 bytes for the Key and for each finding
-pub length-setBy : (main : Bytes) (known : Bool) (date : Bytes) (l : Letter) (f : Facts) (found : List Finding) (athFound : Bool)
-    → length (setBy main known date l f found athFound) ≡ 120 + 120 * length found
+pub length-setBy : (main : Bytes) (known : Bool) (date : Bytes) (l : Letter) (f : Facts) (found : List Finding) (athFound : Bool) (births : ℕ)
+    → length (setBy main known date l f found athFound births) ≡ 120 + 120 * length found
 unfolding setBy
-length-setBy main known date l f found athFound =
+length-setBy main known date l f found athFound births =
     let ssn = orZeros known 9 (field L4868 90 main) in
-    let key = keyRecord ssn (orZeros known 16 (field L4868 7 main)) (Judged l) (pinByte known athFound f) (dateFor l date) (orZeros known 14 (field L4868 8 main)) (length found) (literalFor l f) in
-    let keyed : length key ≡ 120 = length-key _ _ _ _ _ _ _ _ in
+    let key = keyRecord ssn (orZeros known 16 (field L4868 7 main)) (Judged l) (pinByte known athFound f) (dateFor l date) (orZeros known 14 (field L4868 8 main)) (length found) (literalFor l f) births in
+    let keyed : length key ≡ 120 = length-key _ _ _ _ _ _ _ _ _ in
     length-append key (errorsFrom ssn 1 found) ∙ omega (arith, keyed, length-errorsFrom ssn 1 found)
 
 -- WHAT IS LEFT OF BYTES FROM A PLACE ON

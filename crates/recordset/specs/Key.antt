@@ -18,7 +18,7 @@ shownAs number n f = cond (eqb number 0) (zeros n) f
 
 -- the first record of `setBy`, for so many Error records
 -- tied to the paper by `set-parts` of recordset/Laws
-unfoldable pub keyOf : Bytes → Bool → Identity → Bytes → Letter → Facts → ℕ → Bool → Bytes
-keyOf main known i date l f errors athFound =
+unfoldable pub keyOf : Bytes → Bool → Identity → Bytes → Letter → Facts → ℕ → Bool → ℕ → Bytes
+keyOf main known i date l f errors athFound births =
     keyRecord (shownAs (i .ssn) 9 (field L4868 90 main)) (shownAs (i .dsn) 16 (field L4868 7 main)) (Judged l) (pinByte known athFound f)
-    (dateFor l date) (shownAs (i .dcn) 14 (field L4868 8 main)) errors (literalFor l f)
+    (dateFor l date) (shownAs (i .dcn) 14 (field L4868 8 main)) errors (literalFor l f) births

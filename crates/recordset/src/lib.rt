@@ -79,8 +79,9 @@ pub fn put_set_key(
     facts: Facts,
     errors: u32,
     ath_found: bool,
+    births: u8,
 )
-    ensures { λ _. ⌜ now (out .exit) ≡ placed (now (out .entry)) 0 (keyOf (now (main .entry)) known identity (now (date .entry)) letter facts errors «ath_found») ⌝ }
+    ensures { λ _. ⌜ now (out .exit) ≡ placed (now (out .entry)) 0 (keyOf (now (main .entry)) known identity (now (date .entry)) letter facts errors «ath_found» births) ⌝ }
 {
     let ssn = shown(identity.ssn, main, 90, b"000000000");
     let sequence = shown(identity.dsn, main, 7, b"0000000000000000");
@@ -91,6 +92,7 @@ pub fn put_set_key(
         verdict: Verdict::Judged(letter),
         pin: pin_byte(known, ath_found, facts),
         errors,
+        births,
     };
     record::put_key(out, 0, ssn, sequence, marks, day, control, literal)
 }

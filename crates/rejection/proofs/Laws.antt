@@ -86,13 +86,13 @@ module _ (out o : Bytes) (first second : ℕ) (v : o ≡ laid out 120 (errorFor 
 
 module _ (sequence : Bytes) (codes : Codes) where
   abbrev key : ℕ → Bytes
-  key n = keyRecord (zeros 9) sequence (Whole codes) 32 (zeros 8) (zeros 14) n (blanks 15)
+  key n = keyRecord (zeros 9) sequence (Whole codes) 32 (zeros 8) (zeros 14) n (blanks 15) 48
 
   pub rejection-size : (n : ℕ) → n ≡ length (codeList codes) → 120 + 120 * n ≡ length (rejection sequence codes)
   unfolding rejection
   rejection-size n e =
       sym (length-append (key (length (codeList codes))) (wholeErrors 1 (codeList codes))
-      ∙ omega (arith, length-key (zeros 9) sequence (Whole codes) 32 (zeros 8) (zeros 14) (length (codeList codes)) (blanks 15), length-codes 1 (codeList codes)))
+      ∙ omega (arith, length-key (zeros 9) sequence (Whole codes) 32 (zeros 8) (zeros 14) (length (codeList codes)) (blanks 15) 48, length-codes 1 (codeList codes)))
 
   pub rejection-laid : (n : ℕ) (out o o' : Bytes) → n ≡ length (codeList codes) → o ≡ laid out 0 (key n) → o' ≡ laid o 120 (wholeErrors 1 (codeList codes))
       → o' ≡ laid out 0 (rejection sequence codes)
@@ -100,7 +100,7 @@ module _ (sequence : Bytes) (codes : Codes) where
   rejection-laid n out o o' en e1 e2 =
       let m = length (codeList codes) in
       let q : key n ≡ key m = ap key en in
-      let h : 120 ≡ 0 + length (key m) = omega (arith, length-key (zeros 9) sequence (Whole codes) 32 (zeros 8) (zeros 14) m (blanks 15)) in
+      let h : 120 ≡ 0 + length (key m) = omega (arith, length-key (zeros 9) sequence (Whole codes) 32 (zeros 8) (zeros 14) m (blanks 15) 48) in
       e2 ∙ ap (λ (x : Bytes). laid x 120 (wholeErrors 1 (codeList codes))) e1
       ∙ (λ i. laid (laid out 0 (q i)) (h i) (wholeErrors 1 (codeList codes))) ∙ laid-append (key m) (wholeErrors 1 (codeList codes)) out 0
 

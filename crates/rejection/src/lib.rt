@@ -89,6 +89,7 @@ pub fn reject(sequence: &[u8], codes: Codes, out: &mut [u8]) -> Answer
         verdict: Verdict::Whole(codes),
         pin: b' ',
         errors,
+        births: b'0',
     };
     record::put_key(
         out,

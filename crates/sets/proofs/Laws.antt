@@ -321,7 +321,7 @@ module _ (main t date : Bytes) (j : Judgment) (list : List (List ℕ)) (out : By
 
   pub set-laid : (ssn o o' : Bytes) → m ≡ min 96 (j .found .rows) → 120 + 120 * n ≤ length out
       → ssn ≡ cond (eqb (j .identity .ssn) 0) (bytes "000000000") (field L4868 90 main)
-      → o ≡ placed out 0 (keyOf main (j .known) (j .identity) date (j .letter) (j .facts) n (j .found .ath))
+      → o ≡ placed out 0 (keyOf main (j .known) (j .identity) date (j .letter) (j .facts) n (j .found .ath) (j .births))
       → o' ≡ laid o 120 (errorsFrom ssn 1 (take (n + 1 - 1) (foundFrom t (firsts m list))))
       → o' ≡ cond (leb (120 + 120 * min 96 (j .found .kept)) (length out)) (laid out 0 (setAs main t date j list)) out
   unfolding setAs placed
@@ -329,14 +329,14 @@ module _ (main t date : Bytes) (j : Judgment) (list : List (List ℕ)) (out : By
       let a = min 96 (j .found .kept) in
       let f : 120 + 120 * a ≤ length out = omega arith in
       let f' : 0 + 120 ≤ length out = omega arith in
-      let key = keyOf main (j .known) (j .identity) date (j .letter) (j .facts) a (j .found .ath) in
+      let key = keyOf main (j .known) (j .identity) date (j .letter) (j .facts) a (j .found .ath) (j .births) in
       let xs = take a (foundFrom t (firsts (min 96 (j .found .rows)) list)) in
       let s = shownAs (j .identity .ssn) 9 (field L4868 90 main) in
       let less : n + 1 - 1 ≡ a = omega arith in
       let e : o ≡ laid out 0 key =
-      ek ∙ ap (λ (b : Bool). cond b (laid out 0 (keyOf main (j .known) (j .identity) date (j .letter) (j .facts) n (j .found .ath))) out) (le-leb _ _ f')
-      ∙ ap (λ (q : ℕ). laid out 0 (keyOf main (j .known) (j .identity) date (j .letter) (j .facts) q (j .found .ath))) en in
-      let l : 120 ≡ 0 + length key = omega (arith, length-keyOf main (j .known) (j .identity) date (j .letter) (j .facts) a (j .found .ath)) in
+      ek ∙ ap (λ (b : Bool). cond b (laid out 0 (keyOf main (j .known) (j .identity) date (j .letter) (j .facts) n (j .found .ath) (j .births))) out) (le-leb _ _ f')
+      ∙ ap (λ (q : ℕ). laid out 0 (keyOf main (j .known) (j .identity) date (j .letter) (j .facts) q (j .found .ath) (j .births))) en in
+      let l : 120 ≡ 0 + length key = omega (arith, length-keyOf main (j .known) (j .identity) date (j .letter) (j .facts) a (j .found .ath) (j .births)) in
       eo ∙ (λ i. laid (e i) (l i) (errorsFrom (es i) 1 (take (less i) (foundFrom t (firsts (em i) list)))))
       ∙ laid-append key (errorsFrom s 1 xs) out 0
       ∙ ap (λ (b : Bool). cond b (laid out 0 (setAs main t date j list)) out) (sym (le-leb _ _ f))
@@ -345,8 +345,8 @@ module _ (main t date : Bytes) (j : Judgment) (list : List (List ℕ)) (out : By
 pub set-said : (main t date : Bytes) (j : Judgment) (list : List (List ℕ)) (found : List Finding)
     → j .identity ≡ cond (j .known) (identityOf main) noIdentity
     → take (min 96 (j .found .kept)) (foundFrom t (firsts (min 96 (j .found .rows)) list)) ≡ found → length found ≡ min 96 (j .found .kept)
-    → setAs main t date j list ≡ setBy main (j .known) date (j .letter) (j .facts) found (j .found .ath)
+    → setAs main t date j list ≡ setBy main (j .known) date (j .letter) (j .facts) found (j .found .ath) (j .births)
 unfolding setAs
 set-said main t date j list found own e l =
-    (λ i. keyOf main (j .known) (j .identity) date (j .letter) (j .facts) (sym l i) (j .found .ath) ++ errorsFrom (shownAs (j .identity .ssn) 9 (field L4868 90 main)) 1 (e i))
-    ∙ set-parts main (j .known) (j .identity) own date (j .letter) (j .facts) found (j .found .ath)
+    (λ i. keyOf main (j .known) (j .identity) date (j .letter) (j .facts) (sym l i) (j .found .ath) (j .births) ++ errorsFrom (shownAs (j .identity .ssn) 9 (field L4868 90 main)) 1 (e i))
+    ∙ set-parts main (j .known) (j .identity) own date (j .letter) (j .facts) found (j .found .ath) (j .births)

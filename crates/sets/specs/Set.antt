@@ -44,6 +44,6 @@ firsts (suc n) row = getD row 0 [] ∷ firsts n (drop 1 row)
 -- tied to the paper by `set-said` of sets/Laws
 unfoldable pub setAs : Bytes → Bytes → Bytes → Judgment → List (List ℕ) → Bytes
 setAs main t date j list =
-    keyOf main (j .known) (j .identity) date (j .letter) (j .facts) (min 96 (j .found .kept)) (j .found .ath)
+    keyOf main (j .known) (j .identity) date (j .letter) (j .facts) (min 96 (j .found .kept)) (j .found .ath) (j .births)
     ++ errorsFrom (shownAs (j .identity .ssn) 9 (field L4868 90 main)) 1
     (take (min 96 (j .found .kept)) (foundFrom t (firsts (min 96 (j .found .rows)) list)))

@@ -133,6 +133,7 @@ pub fn put_set(
         facts,
         errors as u32,
         found.ath,
+        j.births,
     );
     put_errors(out, ssn, t, rows, list, errors + 1)
 }

@@ -7,7 +7,7 @@ ghost use Rattle.io.specs.Counts.{Counts};
 ghost use Rattle.paper.specs.Bytes.{bytes, written, laid};
 ghost use Rattle.vectors.specs.Paths.{pathOf};
 
-const CASES: usize = 161;
+const CASES: usize = 194;
 
 // The folder of case i, and a slash.
 fn folder_of(i: usize) -> [u8; 4]

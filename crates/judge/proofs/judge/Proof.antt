@@ -27,4 +27,4 @@ judge-spec =
     (λ c κs. (c .before .before .before .of-form .ensures .0, (let k = known-as (now (c .before .before .before .before .before .before .before .before .before .before .before .before .before .before .before .before .before .before .before .args .t)) (c .before .before .before .before .before .before .before .before .before .before .before .before .before .before .before .before .before .before .before .args .at) (c .before .before .before .before .before .before .before .before .before .before .before .document .result) (c .before .before .before .before .before .before .before .before .before .before .before .document .ensures) (c .before .before .before .before .before .before .before .before .is-form .result) true (c .before .before .before .before .before .before .before .before .is-form .ensures) (not-false _ (c .before .before .before .before .before .before .before .if1 .left)) in let f = first-part (now (c .before .before .before .before .before .before .before .before .before .before .before .before .before .before .before .before .before .before .before .args .t)) (c .before .before .before .before .before .before .before .before .before .before .before .before .before .before .before .before .before .before .before .args .at) (c .before .before .before .before .before .before .before .before .before .before .before .document .result) (c .before .before .before .before .before .before .before .before .before .before .before .document .ensures) k in form-size (now (c .before .before .before .before .before .before .before .before .before .before .before .before .before .before .before .before .before .before .before .args .t)) (c .before .before .before .before .before .before .before .before .before .before .before .before .before .before .before .before .before .before .before .args .at) (c .before .before .before .before .before .before .before .before .before .before .before .document .result) _ (c .before .before .before .before .before .before .before .before .before .before .before .document .ensures) k (f .1))))
     (λ c κs. search needs)
     (λ c. search needs)
-    (λ c. let a = c .before .before .before .before .before .before .before .before .before .before .before .before .before .before .before .before .before .before .before .before .before .before .before .before .args in let k = known-as (now (c .before .before .before .before .before .before .before .before .before .before .before .before .before .before .before .before .before .before .before .before .before .before .before .before .args .t)) (c .before .before .before .before .before .before .before .before .before .before .before .before .before .before .before .before .before .before .before .before .before .before .before .before .args .at) (c .before .before .before .before .before .before .before .before .before .before .before .before .before .before .before .before .document .result) (c .before .before .before .before .before .before .before .before .before .before .before .before .before .before .before .before .document .ensures) (c .before .before .before .before .before .before .before .before .before .before .before .before .before .is-form .result) true (c .before .before .before .before .before .before .before .before .before .before .before .before .before .is-form .ensures) (not-false _ (c .before .before .before .before .before .before .before .before .before .before .before .before .if1 .left)) in let f = first-part (now (c .before .before .before .before .before .before .before .before .before .before .before .before .before .before .before .before .before .before .before .before .before .before .before .before .args .t)) (c .before .before .before .before .before .before .before .before .before .before .before .before .before .before .before .before .before .before .before .before .before .before .before .before .args .at) (c .before .before .before .before .before .before .before .before .before .before .before .before .before .before .before .before .document .result) (c .before .before .before .before .before .before .before .before .before .before .before .before .before .before .before .before .document .ensures) k in let r = form-judged (now (a .t)) (now (a .taxpayers)) (now (a .banks)) (now (a .filed)) (now (a .states)) (now (a .date)) (a .at) (a .past) (now (a .row)) (c .before .before .before .before .before .before .before .before .before .before .before .before .before .before .before .before .document .result) (c .before .before .before .before .before .before .before .before .before .before .before .before .before .before .before .before .document .ensures) k _ (c .before .before .before .before .before .before .before .before .of-form .result .found) (c .before .before .before .before .before .before .before .before .of-form .result .identity) _ _ _ (now (a .list)) _ (f .1) (c .before .before .before .before .before .before .before .before .of-form .ensures .0) (c .before .before .before .before .before .before .before .before .of-form .ensures .1) (c .before .before .before .before .letter-of .ensures) (c .before .before .pass .ensures .0) (c .before .before .pass .ensures .1) in (r .0, (r .1, r .2))))
+    (λ c. let a = c .before .before .before .before .before .before .before .before .before .before .before .before .before .before .before .before .before .before .before .before .before .before .before .before .args in let k = known-as (now (c .before .before .before .before .before .before .before .before .before .before .before .before .before .before .before .before .before .before .before .before .before .before .before .before .args .t)) (c .before .before .before .before .before .before .before .before .before .before .before .before .before .before .before .before .before .before .before .before .before .before .before .before .args .at) (c .before .before .before .before .before .before .before .before .before .before .before .before .before .before .before .before .document .result) (c .before .before .before .before .before .before .before .before .before .before .before .before .before .before .before .before .document .ensures) (c .before .before .before .before .before .before .before .before .before .before .before .before .before .is-form .result) true (c .before .before .before .before .before .before .before .before .before .before .before .before .before .is-form .ensures) (not-false _ (c .before .before .before .before .before .before .before .before .before .before .before .before .if1 .left)) in let f = first-part (now (c .before .before .before .before .before .before .before .before .before .before .before .before .before .before .before .before .before .before .before .before .before .before .before .before .args .t)) (c .before .before .before .before .before .before .before .before .before .before .before .before .before .before .before .before .before .before .before .before .before .before .before .before .args .at) (c .before .before .before .before .before .before .before .before .before .before .before .before .before .before .before .before .document .result) (c .before .before .before .before .before .before .before .before .before .before .before .before .before .before .before .before .document .ensures) k in let r = form-judged (now (a .t)) (now (a .taxpayers)) (now (a .banks)) (now (a .filed)) (now (a .states)) (now (a .date)) (a .at) (a .past) (now (a .row)) (c .before .before .before .before .before .before .before .before .before .before .before .before .before .before .before .before .document .result) (c .before .before .before .before .before .before .before .before .before .before .before .before .before .before .before .before .document .ensures) k _ (c .before .before .before .before .before .before .before .before .of-form .result .found) (c .before .before .before .before .before .before .before .before .of-form .result .identity) _ (c .before .before .before .before .before .before .before .before .of-form .result .births) _ _ (now (a .list)) _ (f .1) (c .before .before .before .before .before .before .before .before .of-form .ensures .0) (c .before .before .before .before .before .before .before .before .of-form .ensures .1 .0) (c .before .before .before .before .letter-of .ensures) (c .before .before .before .before .before .before .before .before .of-form .ensures .1 .1) (c .before .before .pass .ensures .0) (c .before .before .pass .ensures .1) in (r .0, (r .1, r .2))))
