@@ -1,13 +1,13 @@
--- How wide the keys are that a transmission uses. Assumes nothing.
+-- How wide the keys are that a transmission uses, and how long its TRANA and TRANB. Assumes nothing.
 use Prim.Native.Nat.{ℕ, _+_, _≤_}
 use mathlib.Core.Bool.{Bool, true, false, cond}
 use mathlib.Core.List.{List, [], _∷_}
 use mathlib.Core.Path.{_≡_, refl, sym, ap, _∙_}
 use native.Mathlib.Omega.{arith}
 use lib.ListN.{length, drop, getD, length-take, length-drop}
-use Rattle.paper.specs.declared.Kind.the-variants.{TranA, Form, Payment}
+use Rattle.paper.specs.declared.Kind.the-variants.{TranA, TranB, Form, Payment}
 use Rattle.paper.specs.declared.Layout.the-variants.{L4868, LPayment}
-use Rattle.paper.specs.declared.Order.the-variants.{First, Second, Broken}
+use Rattle.paper.specs.declared.Order.the-variants.{First, Second, Between, Broken}
 use Rattle.paper.specs.Bytes.{Bytes, part}
 use Rattle.paper.specs.Layouts.{form4868, payment, trana, entry, field, through}
 use Rattle.paper.specs.Walk.{is, kindOf, isEnded, ordered, twelve}
@@ -37,9 +37,21 @@ first-by : (b : Bool) (rs : List Bytes) → isEnded (ordered (cond b Second Brok
 first-by true rs e = refl
 first-by false rs e = absurd (never (sym (ap isEnded (broken-stays rs)) ∙ e))
 
-first-trana : (rs : List Bytes) → isEnded (ordered First rs) ≡ true → length (getD rs 0 []) ≡ 120
+pub first-trana : (rs : List Bytes) → isEnded (ordered First rs) ≡ true → length (getD rs 0 []) ≡ 120
 first-trana [] e = absurd (never e)
 first-trana (r ∷ rs) e = kind-length TranA 120 r refl (first-by (is TranA (kindOf r)) rs e)
+
+second-by : (b : Bool) (rs : List Bytes) → isEnded (ordered (cond b Between Broken) rs) ≡ true → b ≡ true
+second-by true rs e = refl
+second-by false rs e = absurd (never (sym (ap isEnded (broken-stays rs)) ∙ e))
+
+pub second-tranb : (rs : List Bytes) → isEnded (ordered First rs) ≡ true → length (getD rs 1 []) ≡ 120
+second-tranb [] e = absurd (never e)
+second-tranb (r ∷ rs) e = by rs (ap (λ (b : Bool). isEnded (ordered (cond b Second Broken) rs)) (sym (first-by (is TranA (kindOf r)) rs e)) ∙ e)
+  where
+    by : (qs : List Bytes) → isEnded (ordered Second qs) ≡ true → length (getD qs 0 []) ≡ 120
+    by [] f = absurd (never f)
+    by (q ∷ qs) f = kind-length TranB 120 q refl (second-by (is TranB (kindOf q)) qs f)
 
 pub twelve-wide : (rs : List Bytes) → isEnded (ordered First rs) ≡ true → length (twelve (getD rs 0 [])) ≡ 12
 unfolding twelve through entry trana

@@ -37,7 +37,9 @@ of-form-spec =
     let q = c .before .before .before .before .before .before .before .before .before .before .before .before .before .before .before .before .before .before .before .before .pre in
     let n = form-size (now (a .t)) (a .at) (a .doc) (now (a .form)) (q .0) (q .1) (q .2) in (
       c .before .before .before .before .before .before .before .broken .ensures .1 ∙ ap (λ (b : Bool). cond b (identityOf (now (a .form))) noIdentity) (eq-eqb _ 384 n),
-      (form-found (now (a .t)) (a .at) (now (a .form)) (now (a .taxpayers)) (now (a .banks)) (now (a .states)) (now (a .date)) (a .past) (a .doc .facts) (q .1) (q .2) _ _ _ _ _ _ _ (now (a .list)) _ _ _
-          (c .before .before .before .before .before .before .before .before .before .before .before .before .before .field-of .ensures) (c .before .before .before .before .before .before .before .before .before .before .before .before .line-of .ensures) (c .before .before .before .before .before .before .before .before .before .before .before .field-of2 .ensures) (c .before .before .before .before .before .before .before .before .before .before .line-of2 .ensures) (c .before .before .before .before .before .before .before .before .before .field-of3 .ensures) (c .before .before .before .before .before .before .before .before .rows-of .ensures) n (c .before .before .before .before .before .before .before .broken .ensures .0) (c .before .before .before .before .before .no-findings .ensures) (c .before .before .before .collected .ensures .0) (c .before .with-others .ensures),
-      births-found (now (a .t)) (a .at) (now (a .form)) (now (a .taxpayers)) (a .doc .facts) (q .1) (q .2) _ _ _ _ _ (c .before .before .before .before .before .before .before .before .before .before .before .before .before .field-of .ensures) (c .before .before .before .before .before .before .before .before .before .before .before .before .line-of .ensures) (c .before .before .before .before .before .before .before .before .before .before .before .field-of2 .ensures) (c .before .before .before .before .before .before .before .before .before .before .line-of2 .ensures) (c .birth-byte .ensures)),
+      (
+        form-found (now (a .t)) (a .at) (now (a .form)) (now (a .taxpayers)) (now (a .banks)) (now (a .states)) (now (a .date)) (a .past) (a .doc .facts) (q .1) (q .2) _ _ _ _ _ _ _ (now (a .list)) _ _ _
+            (c .before .before .before .before .before .before .before .before .before .before .before .before .before .field-of .ensures) (c .before .before .before .before .before .before .before .before .before .before .before .before .line-of .ensures) (c .before .before .before .before .before .before .before .before .before .before .before .field-of2 .ensures) (c .before .before .before .before .before .before .before .before .before .before .line-of2 .ensures) (c .before .before .before .before .before .before .before .before .before .field-of3 .ensures) (c .before .before .before .before .before .before .before .before .rows-of .ensures) n (c .before .before .before .before .before .before .before .broken .ensures .0) (c .before .before .before .before .before .no-findings .ensures) (c .before .before .before .collected .ensures .0) (c .before .with-others .ensures),
+        births-found (now (a .t)) (a .at) (now (a .form)) (now (a .taxpayers)) (a .doc .facts) (q .1) (q .2) _ _ _ _ _ (c .before .before .before .before .before .before .before .before .before .before .before .before .before .field-of .ensures) (c .before .before .before .before .before .before .before .before .before .before .before .before .line-of .ensures) (c .before .before .before .before .before .before .before .before .before .before .before .field-of2 .ensures) (c .before .before .before .before .before .before .before .before .before .before .line-of2 .ensures) (c .birth-byte .ensures),
+      ),
     )))
