@@ -94,7 +94,7 @@ pub struct World {
 const CONTROLS: [&[u8]; 8] = [b"LEE ", b"SMIT", b"O-NE", b"DE L", b"ABCD", b"ZZZZ", b"    ", b"X-  "];
 
 /// Birth dates of taxpayers.
-const BIRTH_DATES: [&[u8]; 4] = [b"19600229", b"19611231", b"19600228", b"20000101"];
+const SOUND_BIRTH_DATES: [&[u8]; 4] = [b"19600229", b"19611231", b"19600228", b"20000101"];
 
 /// States with their lines; a state may have several.
 const STATES: [&[u8; 8]; 9] = [
@@ -156,7 +156,7 @@ fn taxpayer(rng: &mut Prng, ssn: &[u8; 9]) -> Taxpayer {
     let mut line = [b'0'; 33];
     line[..9].copy_from_slice(ssn);
     line[9..13].copy_from_slice(rng.pick(&CONTROLS));
-    line[13..21].copy_from_slice(rng.pick(&BIRTH_DATES));
+    line[13..21].copy_from_slice(rng.pick(&SOUND_BIRTH_DATES));
     if !rng.one_in(8) {
         line[21..].copy_from_slice(&rng.digits::<12>());
     }

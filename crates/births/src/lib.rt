@@ -4,7 +4,7 @@ ghost use mathlib.Core.Path.{_≡_};
 ghost use lib.ListN.{drop};
 ghost use Rattle.paper.specs.declared.Layout.the-variants.{LAuth};
 ghost use Rattle.paper.specs.Layouts.{field};
-ghost use Rattle.paper.specs.Conditions.{typed, firstAuth, otherBirth, comparesBirths, validity, birthByte};
+ghost use Rattle.paper.specs.Conditions.{firstAuth, otherBirth, comparesBirths, validity, birthByte};
 ghost use Rattle.walk.specs.Parts.{ownIn};
 
 fn field_of(n: u32, own: &[u8]) -> &[u8]
@@ -32,17 +32,12 @@ fn first_auth(t: &[u8], from: usize) -> &[u8]
     &t[0..0]
 }
 
-fn is_typed(kind: &[u8], own: &[u8]) -> bool
-    ensures { λ r. ⌜ r ≡ typed (now (kind .entry)) (now (own .entry)) ⌝ }
-{
-    text::is_same(field_of(8, own), kind)
-}
-
 // Type S or O, with a payment, and a birth date present.
 fn compares(own: &[u8], pays: usize) -> bool
     ensures { λ r. ⌜ r ≡ comparesBirths (now (own .entry)) pays ⌝ }
 {
-    (is_typed(b"S", own) | is_typed(b"O", own))
+    let kind = field_of(8, own);
+    (text::is_same(kind, b"S") | text::is_same(kind, b"O"))
         & (0 < pays)
         & (!text::blank(field_of(10, own)) | !text::blank(field_of(40, own)))
 }

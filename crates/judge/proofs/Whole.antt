@@ -4,7 +4,7 @@ use mathlib.Core.Bool.{Bool, true, false, not, cond, _||_}
 use mathlib.Core.List.{List, [], _∷_, _++_, map, append-nil}
 use Prim.Native.Nat.{ℕ, suc, _+_, _-_, _≤_, _<_, min}
 use native.Mathlib.Omega.{arith}
-use borrow.Author.Tests.{eq-eqb, ne-eqb}
+use borrow.Author.Tests.{eq-eqb, ne-eqb, not-false}
 use lib.Dec.{eqb, ltb}
 use lib.ListN.{length, take, drop}
 use Rattle.paper.specs.declared.Facts.{Facts}
@@ -14,7 +14,7 @@ use Rattle.paper.specs.declared.Kind.{Kind}
 use Rattle.paper.specs.declared.Kind.the-variants.{TranA, TranB, Form, Unknown, Payment, Auth, Summary, Recap, Stray}
 use Rattle.paper.specs.declared.Layout.the-variants.{L4868, LPayment}
 use Rattle.paper.specs.declared.Letter.{Letter}
-use Rattle.paper.specs.declared.Letter.the-variants.{R, D}
+use Rattle.paper.specs.declared.Letter.the-variants.{D}
 use Rattle.paper.specs.Bytes.{Bytes, bit, every, those, empty, member, firstOr, written}
 use Rattle.paper.specs.Layouts.{form4868, authentication, entry, field}
 use Rattle.paper.specs.Pack.{Lines, linesIn}
@@ -44,23 +44,19 @@ use Rattle.judge.proofs.Found.{others-same, empty-found}
 
 -- THE LETTER
 
-pub letter-r : (rows : ℕ) (b : Bool) → 0 < rows → R ≡ letterBy (eqb rows 0) b
-letter-r rows b h = ap (λ (c : Bool). letterBy c b) (sym (ne-eqb rows 0 (λ e. omega arith)))
-
-module _ (rows : ℕ) (filed f90 ssn line : Bytes) (accepted : List Bytes) (clean : rows ≤ 0) (e-ssn : ssn ≡ f90) (e-line : line ≡ lineIn 9 ssn filed) where
-  on : letterBy (eqb rows 0) (not (empty (lineIn 9 f90 filed)) || member f90 accepted) ≡ letterBy true (not (empty line) || member ssn accepted)
+module _ (clean : Bool) (filed f90 ssn line : Bytes) (accepted : List Bytes) (e-clean : not clean ≡ false) (e-ssn : ssn ≡ f90) (e-line : line ≡ lineIn 9 ssn filed) where
+  on : letterBy clean (not (empty (lineIn 9 f90 filed)) || member f90 accepted) ≡ letterBy true (not (empty line) || member ssn accepted)
   on =
-      let z : rows ≡ 0 = omega arith in
-      (λ i. letterBy (eq-eqb rows 0 z i) (not (empty (lineIn 9 (sym e-ssn i) filed)) || member (sym e-ssn i) accepted)) ∙ ap (λ (l : Bytes). letterBy true (not (empty l) || member ssn accepted)) (sym e-line)
+      (λ i. letterBy (not-false clean e-clean i) (not (empty (lineIn 9 (sym e-ssn i) filed)) || member (sym e-ssn i) accepted)) ∙ ap (λ (l : Bytes). letterBy true (not (empty l) || member ssn accepted)) (sym e-line)
 
-  pub letter-filed : 0 < length line → D ≡ letterBy (eqb rows 0) (not (empty (lineIn 9 f90 filed)) || member f90 accepted)
+  pub letter-filed : 0 < length line → D ≡ letterBy clean (not (empty (lineIn 9 f90 filed)) || member f90 accepted)
   letter-filed h = sym (on ∙ by line h)
     where
       by : (l : Bytes) → 0 < length l → letterBy true (not (empty l) || member ssn accepted) ≡ D
       by [] q = absurd (omega arith)
       by (x ∷ l) q = refl
 
-  pub letter-rest : (b : Bool) → length line ≤ 0 → b ≡ member ssn accepted → letterBy true b ≡ letterBy (eqb rows 0) (not (empty (lineIn 9 f90 filed)) || member f90 accepted)
+  pub letter-rest : (b : Bool) → length line ≤ 0 → b ≡ member ssn accepted → letterBy true b ≡ letterBy clean (not (empty (lineIn 9 f90 filed)) || member f90 accepted)
   letter-rest b h e = sym (on ∙ by line h ∙ ap (letterBy true) (sym e))
     where
       by : (l : Bytes) → length l ≤ 0 → letterBy true (not (empty l) || member ssn accepted) ≡ letterBy true (member ssn accepted)

@@ -1,5 +1,4 @@
-// One document's judgment: its letter, its numbers, its findings, its facts and its birth dates; and what it leaves for the later ones to
-// see.
+// One document's judgment: its letter, its numbers, its findings, its facts and field 0117; and what it leaves for the later ones to see.
 use paper::Findings;
 use paper::Identity;
 use paper::Judgment;
@@ -292,18 +291,15 @@ fn of_other(at: usize, kind: Kind, list: &mut [[usize; 3]; 96]) -> Findings
     collected(no_findings(), at, kind, set, list)
 }
 
-// The letter by its findings alone.
-fn letter_by(rows: usize) -> Letter
-    ensures { λ r. ⌜ r ≡ letterBy (eqb rows 0) false ⌝ }
+// The letter by whether there is no finding, alone.
+fn letter_by(clean: bool) -> Letter
+    ensures { λ r. ⌜ r ≡ letterBy clean false ⌝ }
 {
-    if 0 < rows {
-        return Letter::R;
-    }
-    Letter::A
+    if clean { Letter::A } else { Letter::R }
 }
 
 fn letter_of(
-    rows: usize,
+    clean: bool,
     identity: Identity,
     filed: &[u8],
     form: &[u8],
@@ -311,9 +307,9 @@ fn letter_of(
     row: &[u32],
 ) -> Letter
     requires { ⌜ (identity ≡ identityOf (now form)) × (length (now form) ≡ 384) ⌝ }
-    ensures { λ r. ⌜ r ≡ letterBy (eqb rows 0) (not (empty (lineIn 9 (field L4868 90 (now (form .entry))) (now (filed .entry)))) || member (field L4868 90 (now (form .entry))) (numbersIn (take (past .n) (now (row .entry))))) ⌝ }
+    ensures { λ r. ⌜ r ≡ letterBy clean (not (empty (lineIn 9 (field L4868 90 (now (form .entry))) (now (filed .entry)))) || member (field L4868 90 (now (form .entry))) (numbersIn (take (past .n) (now (row .entry))))) ⌝ }
 {
-    if 0 < rows {
+    if !clean {
         return Letter::R;
     }
     if 0 < lookup::line_of(filed, 9, field_of(90, form)).len() {
@@ -349,7 +345,7 @@ pub fn judge(
     let facts = doc.facts;
     if !walk::is_form(kind) {
         let found = of_other(at, kind, list);
-        let letter = letter_by(found.rows);
+        let letter = letter_by(found.rows == 0);
         return Judged {
             judgment: Judgment {
                 size,
@@ -368,7 +364,8 @@ pub fn judge(
     let formed = of_form(t, at, doc, form, taxpayers, banks, states, date, past, list);
     let found = formed.found;
     let identity = formed.identity;
-    let letter = letter_of(found.rows, identity, filed, form, past, row);
+    let births = formed.births;
+    let letter = letter_of(found.rows == 0, identity, filed, form, past, row);
     let next = pass(identity, letter, past, row);
     Judged {
         judgment: Judgment {
@@ -378,7 +375,7 @@ pub fn judge(
             identity,
             found,
             facts,
-            births: formed.births,
+            births,
         },
         past: next,
     }

@@ -13,7 +13,7 @@ use Rattle.paper.specs.Bytes.{Bytes}
 use Rattle.paper.specs.Pack.{block, blocksOf}
 use Rattle.paper.specs.Walk.{records}
 use Rattle.paper.specs.Hidden.{outcomeWith, setAt, Document, InPlace}
-use Rattle.paper.specs.Notice.{lettersOf}
+use Rattle.paper.specs.Notice.{ButBirths, lettersOf}
 use Rattle.paper.specs.Samples.{twoPack, beforeIt, unpaid, paid, afterIt, docIn, day, old, new, OneDocument, exchange, duplicatePack, otherBirthPack, one-digit}
 use Rattle.paper.proofs.Laws.{never, same-eq}
 use Rattle.paper.proofs.OtherSets.{others-same}
@@ -73,11 +73,14 @@ blocks-same k low high =
     let one : eqb k 1 ≡ false = ne-eqb k 1 (λ e. omega arith) in
     rw (one, one-digit .two, one-digit .three, one-digit .four, one-digit .five)
 
--- the letters are the same, whatever is sent
-pub letters-unchanged : (t date : Bytes) → lettersOf (outcomeWith duplicatePack date t) ≡ lettersOf (outcomeWith otherBirthPack date t)
-letters-unchanged t date = same-letters t date duplicatePack otherBirthPack (record {
+pub but-births : ButBirths duplicatePack otherBirthPack
+but-births = record {
   first-well = one-digit .first-well;
   second-well = one-digit .second-well;
   lines = one-digit .lines;
   others = blocks-same;
-})
+}
+
+-- the letters are the same, whatever is sent
+pub letters-unchanged : (t date : Bytes) → lettersOf (outcomeWith duplicatePack date t) ≡ lettersOf (outcomeWith otherBirthPack date t)
+letters-unchanged t date = same-letters t date duplicatePack otherBirthPack but-births

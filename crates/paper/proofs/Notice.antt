@@ -1,13 +1,12 @@
 -- The birth dates of a pack change field 0117 of the Keys and nothing else. Assumes nothing.
 use Prim.Native.Nat.{ℕ, zero, suc, _+_, _≤_}
-use mathlib.Core.Bool.{Bool, true, false, not, cond, _&&_, _||_}
+use mathlib.Core.Bool.{Bool, true, false, not, cond}
 use mathlib.Core.List.{List, [], _∷_, _++_, map, append-assoc}
 use mathlib.Core.Path.{_≡_, refl, sym, ap, _∙_}
 use native.Mathlib.Omega.{arith}
 use lib.Dec.{T, lit≤}
 use lib.ListN.{length, take, drop, set, length-append}
 use lib.Seq.{sets, set-set, set-comm, take-set-le, drop-set-lt, take-at, drop-at}
-use Rattle.paper.specs.declared.Answer.the-variants.{File, Refused}
 use Rattle.paper.specs.declared.Facts.{Facts}
 use Rattle.paper.specs.declared.Kind.{Kind}
 use Rattle.paper.specs.declared.Kind.the-variants.{TranA, TranB, Form, Unknown, Payment, Auth, Summary, Recap, Stray}
@@ -20,13 +19,13 @@ use Rattle.paper.specs.Layouts.{ackKey, entry, field}
 use Rattle.paper.specs.Pack.{Lines, keyed, linesOf, linesIn, block, blocksOf, widthOf, taxpayers, banks, filed, states, sentBefore}
 use Rattle.paper.specs.Walk.{Doc, Parsed, is, kindOf, isEnded, ordered, records, sound, parsedOf, parsedIf, parse, twelve, twelveAgain}
 use Rattle.paper.specs.Conditions.{Sight, sight, view, controlIn, incomeIn, ofKind, unlisted, wrongIncome, formHolds, authHolds, holds, rulesOf}
-use Rattle.paper.specs.Judge.{Before, Case, Item, Turn, Finding, known, attached, ssnOf, spouseOf, stateOf, itemOf, caseOf, ifKnown, asked, start, seen, passed, after, turn, turns, sightOf, mark, findsIn, findsFrom, findings, twice, letterBy, letterOf, birthsOf, isA}
+use Rattle.paper.specs.Judge.{Before, Case, Item, Turn, Finding, known, attached, ssnOf, spouseOf, stateOf, itemOf, caseOf, ifKnown, asked, start, seen, passed, after, turn, turns, sightOf, mark, findsFrom, findings, twice, letterBy, letterOf, birthsOf, isA}
 use Rattle.paper.specs.File.{recordOf, keyRecord, errorsFrom, errorOf, onAuth, setBy, setOf, recapRecord, Outcome, rejected, judged, outcomeBy, turnsOf, outcomeOf, outcome, acceptedIn, fileFrom, fileOf}
-use Rattle.paper.specs.Answer.{prescribed, roomFor, answer}
+use Rattle.paper.specs.Answer.{prescribed, answer}
 use Rattle.paper.specs.Notice.{withoutBirth, ButBirths, lettersOf, SameLetters, quietKey, quietFirst, quiet, OnlyNotices, NoticeAnswer}
 use Rattle.paper.proofs.Laws.{never, part-take}
 use Rattle.paper.proofs.Widths.{ssn-wide, spouse-wide, first-trana, second-tranb}
-use Rattle.paper.proofs.RecordSizes.{length-key, length-error, length-recap}
+use Rattle.paper.proofs.RecordSizes.{length-key, length-error}
 use Rattle.paper.proofs.SameFile.{sound-ended}
 
 -- A LINE WITHOUT ITS BIRTH DATE
@@ -182,15 +181,15 @@ module _ (p q : Bytes) (h : ButBirths p q) where
 
 -- TWO FILES THAT DIFFER ONLY IN FIELD 0117
 
-record Alike (s s' : Bytes) : Type 0 where
+record ButNotices (s s' : Bytes) : Type 0 where
   long : length s ≡ length s'
   same : (n : ℕ) → length s ≤ n → quietFirst n s ≡ quietFirst n s'
 
-itself : (s : Bytes) → Alike s s
+itself : (s : Bytes) → ButNotices s s
 itself s = record { long = refl; same = λ n h. refl }
 
 -- a record more in front of each
-in-front : (a a' s s' : Bytes) → length a ≡ 120 → length a' ≡ 120 → quietKey a ≡ quietKey a' → Alike s s' → Alike (a ++ s) (a' ++ s')
+in-front : (a a' s s' : Bytes) → length a ≡ 120 → length a' ≡ 120 → quietKey a ≡ quietKey a' → ButNotices s s' → ButNotices (a ++ s) (a' ++ s')
 in-front a a' s s' w w' e r = record {
   long = omega (arith, length-append a s, length-append a' s', r .long);
   same = by;
@@ -203,7 +202,7 @@ in-front a a' s s' w w' e r = record {
         ∙ (λ i. e i ++ r .same n (omega (arith, length-append a s)) i)
         ∙ sym (λ i. quietKey (take-at a' s' 120 w' i) ++ quietFirst n (drop-at a' s' 120 w' i))
 
-errors-front : (ssn : Bytes) (n : ℕ) (xs : List Finding) (s s' : Bytes) → Alike s s' → Alike (errorsFrom ssn n xs ++ s) (errorsFrom ssn n xs ++ s')
+errors-front : (ssn : Bytes) (n : ℕ) (xs : List Finding) (s s' : Bytes) → ButNotices s s' → ButNotices (errorsFrom ssn n xs ++ s) (errorsFrom ssn n xs ++ s')
 unfolding errorOf
 errors-front ssn n [] s s' r = r
 errors-front ssn n (x ∷ xs) s s' r =
@@ -251,13 +250,13 @@ module _ (ssn sequence : Bytes) (v : Verdict) (pin : ℕ) (date control : Bytes)
 abbrev setWith : ℕ → Turn → Bytes
 setWith b t = setBy (t .subject .doc .main) (known (t .subject .doc)) (t .date) (letterOf t) (sightOf t .whole) (take 96 (findings t)) (any onAuth (findings t)) b
 
-set-front : (b c : ℕ) (t : Turn) (s s' : Bytes) → Alike s s' → Alike (setWith b t ++ s) (setWith c t ++ s')
+set-front : (b c : ℕ) (t : Turn) (s s' : Bytes) → ButNotices s s' → ButNotices (setWith b t ++ s) (setWith c t ++ s')
 unfolding setBy
 set-front b c t s s' r =
     rw (append-assoc _ _ s, append-assoc _ _ s')
     (in-front _ _ _ _ (length-key _ _ _ _ _ _ _ _ _) (length-key _ _ _ _ _ _ _ _ _) (key-quiet _ _ _ _ _ _ _ _ b c) (errors-front _ 1 (take 96 (findings t)) s s' r))
 
-sets-front : (ts : List Turn) (s : Bytes) → Alike (joined (map setOf ts) ++ s) (joined (map (setWith 48) ts) ++ s)
+sets-front : (ts : List Turn) (s : Bytes) → ButNotices (joined (map setOf ts) ++ s) (joined (map (setWith 48) ts) ++ s)
 unfolding setOf
 sets-front [] s = itself s
 sets-front (t ∷ ts) s =
@@ -278,7 +277,7 @@ Sized (judged p ts) = (length (p .trana) ≡ 120) × (length (p .tranb) ≡ 120)
 nested : (a b c d : Bytes) → a ++ b ++ c ++ d ≡ a ++ (b ++ (c ++ d))
 nested a b c d = append-assoc (a ++ b) c d ∙ append-assoc a b (c ++ d)
 
-file-alike : (name : Bytes) (o : Outcome) → Sized o → Alike (fileFrom name o) (quietFile name o)
+file-alike : (name : Bytes) (o : Outcome) → Sized o → ButNotices (fileFrom name o) (quietFile name o)
 file-alike name (rejected sequence codes) w = itself _
 file-alike name (judged p ts) w =
     let recap = recapRecord (p .recap) (twelve (p .trana)) (acceptedIn ts) (length ts) name in
@@ -354,13 +353,13 @@ module _ (p q : Bytes) (h : ButBirths p q) (date : Bytes) where
   unfolding outcome parse
   outcome-quiet t = outcomes-quiet (sound (records t)) (records t)
 
-alike-file : (t pack date name : Bytes) → Alike (prescribed t pack date name) (quietFile name (outcome (linesOf (blocksOf pack)) date t))
+alike-file : (t pack date name : Bytes) → ButNotices (prescribed t pack date name) (quietFile name (outcome (linesOf (blocksOf pack)) date t))
 unfolding prescribed fileOf outcome parse
 alike-file t pack date name =
     file-alike name (outcomeOf (linesOf (blocksOf pack)) date (parsedIf (sound (records t)) (records t)))
     (outcome-sized (linesOf (blocksOf pack)) date (sound (records t)) (records t) (sound-ended (records t)))
 
-quiet-alike : (s s' : Bytes) → Alike s s' → quiet s ≡ quiet s'
+quiet-alike : (s s' : Bytes) → ButNotices s s' → quiet s ≡ quiet s'
 quiet-alike s s' r = r .same (length s) (omega arith) ∙ ap (λ (n : ℕ). quietFirst n s') (r .long)
 
 pub same-letters : SameLetters

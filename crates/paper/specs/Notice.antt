@@ -2,7 +2,7 @@
 -- said in; the proofs stand in proofs/. Assumes nothing.
 use Prim.Native.Nat.{ℕ, zero, suc, _≤_}
 use mathlib.Core.Bool.{true, cond}
-use mathlib.Core.List.{List, [], _∷_, _++_, map}
+use mathlib.Core.List.{List, [], _++_, map}
 use mathlib.Core.Path.{_≡_}
 use lib.ListN.{length, take, drop}
 use Rattle.paper.specs.declared.Layout.the-variants.{LKey}
@@ -29,7 +29,7 @@ pub record ButBirths (p q : Bytes) : Type 0 where
   pub lines : withoutBirths p ≡ withoutBirths q
   pub others : (k : ℕ) → 2 ≤ k → k ≤ 5 → block (blocksOf p) k ≡ block (blocksOf q) k
 
--- the letters of the documents in their order, none of a whole rejection
+-- the letters of the documents in their order, none of a whole rejection; a transmission that is judged has a document
 abbrev pub lettersOf : Outcome → List Letter
 lettersOf (rejected sequence codes) = []
 lettersOf (judged p ts) = map letterOf ts

@@ -12,4 +12,4 @@ differs-spec =
     (λ c κs. search needs)
     (λ c κs. search needs)
     (λ c κs. search needs)
-    (λ c. cc))
+    (λ c. rw (c .is-same .ensures, c .before .piece .ensures, c .before .before .blank .ensures, c .before .before .before .field-of .ensures)))
