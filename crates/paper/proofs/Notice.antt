@@ -5,7 +5,7 @@ use mathlib.Core.List.{List, [], _∷_, _++_, map, append-assoc}
 use mathlib.Core.Path.{_≡_, refl, sym, ap, _∙_}
 use native.Mathlib.Omega.{arith}
 use lib.Dec.{T, lit≤}
-use lib.ListN.{length, take, drop, set, length-append}
+use lib.ListN.{length, take, drop, set, length-append, length-map}
 use lib.Seq.{sets, set-set, set-comm, take-set-le, drop-set-lt, take-at, drop-at}
 use Rattle.paper.specs.declared.Facts.{Facts}
 use Rattle.paper.specs.declared.Kind.{Kind}
@@ -297,10 +297,6 @@ accepted-quiet : (ts : List Turn) → acceptedIn (map quietTurn ts) ≡ accepted
 accepted-quiet [] = refl
 accepted-quiet (t ∷ ts) = λ i. bit (isA (letter-stays t i)) + accepted-quiet ts i
 
-length-quiet : (ts : List Turn) → length (map quietTurn ts) ≡ length ts
-length-quiet [] = refl
-length-quiet (t ∷ ts) = ap suc (length-quiet ts)
-
 -- 0822 by the lines, and 0840
 abbrev sent : Lines → Parsed → Bool
 sent L p = not (empty (L sentBefore (twelve (p .trana))))
@@ -315,7 +311,7 @@ quietOutcome (judged p ts) = judged p (map quietTurn ts)
 file-quiet : (name : Bytes) (o : Outcome) → quietFile name (quietOutcome o) ≡ quietFile name o
 file-quiet name (rejected sequence codes) = refl
 file-quiet name (judged p ts) =
-    λ i. p .trana ++ p .tranb ++ sets-quiet ts i ++ recapRecord (p .recap) (twelve (p .trana)) (accepted-quiet ts i) (length-quiet ts i) name
+    λ i. p .trana ++ p .tranb ++ sets-quiet ts i ++ recapRecord (p .recap) (twelve (p .trana)) (accepted-quiet ts i) (length-map ts quietTurn i) name
 
 letters-quiet : (o : Outcome) → lettersOf (quietOutcome o) ≡ lettersOf o
 letters-quiet (rejected sequence codes) = refl

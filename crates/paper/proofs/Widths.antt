@@ -7,6 +7,7 @@ use native.Mathlib.Omega.{arith}
 use lib.ListN.{length, drop, getD, length-take, length-drop}
 use Rattle.paper.specs.declared.Kind.the-variants.{TranA, TranB, Form, Payment}
 use Rattle.paper.specs.declared.Layout.the-variants.{L4868, LPayment}
+use Rattle.paper.specs.declared.Order.{Order}
 use Rattle.paper.specs.declared.Order.the-variants.{First, Second, Between, Broken}
 use Rattle.paper.specs.Bytes.{Bytes, part}
 use Rattle.paper.specs.Layouts.{form4868, payment, trana, entry, field, through}
@@ -33,25 +34,22 @@ pub routing-wide : (r : Bytes) → is Payment (kindOf r) ≡ true → length (fi
 unfolding field entry payment
 routing-wide r e = wide 60 9 r (omega (arith, kind-length Payment 123 r refl e))
 
-first-by : (b : Bool) (rs : List Bytes) → isEnded (ordered (cond b Second Broken) rs) ≡ true → b ≡ true
-first-by true rs e = refl
-first-by false rs e = absurd (never (sym (ap isEnded (broken-stays rs)) ∙ e))
+-- a test on which the order hangs holds in an order that ends
+kept : (o : Order) (b : Bool) (rs : List Bytes) → isEnded (ordered (cond b o Broken) rs) ≡ true → b ≡ true
+kept o true rs e = refl
+kept o false rs e = absurd (never (sym (ap isEnded (broken-stays rs)) ∙ e))
 
 pub first-trana : (rs : List Bytes) → isEnded (ordered First rs) ≡ true → length (getD rs 0 []) ≡ 120
 first-trana [] e = absurd (never e)
-first-trana (r ∷ rs) e = kind-length TranA 120 r refl (first-by (is TranA (kindOf r)) rs e)
-
-second-by : (b : Bool) (rs : List Bytes) → isEnded (ordered (cond b Between Broken) rs) ≡ true → b ≡ true
-second-by true rs e = refl
-second-by false rs e = absurd (never (sym (ap isEnded (broken-stays rs)) ∙ e))
+first-trana (r ∷ rs) e = kind-length TranA 120 r refl (kept Second (is TranA (kindOf r)) rs e)
 
 pub second-tranb : (rs : List Bytes) → isEnded (ordered First rs) ≡ true → length (getD rs 1 []) ≡ 120
 second-tranb [] e = absurd (never e)
-second-tranb (r ∷ rs) e = by rs (ap (λ (b : Bool). isEnded (ordered (cond b Second Broken) rs)) (sym (first-by (is TranA (kindOf r)) rs e)) ∙ e)
+second-tranb (r ∷ rs) e = by rs (ap (λ (b : Bool). isEnded (ordered (cond b Second Broken) rs)) (sym (kept Second (is TranA (kindOf r)) rs e)) ∙ e)
   where
     by : (qs : List Bytes) → isEnded (ordered Second qs) ≡ true → length (getD qs 0 []) ≡ 120
     by [] f = absurd (never f)
-    by (q ∷ qs) f = kind-length TranB 120 q refl (second-by (is TranB (kindOf q)) qs f)
+    by (q ∷ qs) f = kind-length TranB 120 q refl (kept Between (is TranB (kindOf q)) qs f)
 
 pub twelve-wide : (rs : List Bytes) → isEnded (ordered First rs) ≡ true → length (twelve (getD rs 0 [])) ≡ 12
 unfolding twelve through entry trana
