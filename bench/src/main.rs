@@ -17,13 +17,37 @@ mod twin;
 mod vectors;
 
 use std::process::ExitCode;
+use twin::Refusal;
 
 /// A receiver in the form that both sides share: the refusal's number times 2^32, plus the length.
 pub type Receiver = fn(&[u8], &[u8], &[u8], &[u8], &mut [u8]) -> u64;
 
+/// What a receiver needs for a file, in the form of its answer: refusal 1, 2 or 3, or the length.
+pub type Need = fn(&[u8], &[u8], &[u8], &[u8]) -> u64;
+
+/// One side of the comparison.
+#[derive(Clone, Copy)]
+pub struct Side {
+    pub receiver: Receiver,
+    pub need: Need,
+}
+
+pub const INDEPENDENT: Side = Side { receiver: independent, need: independent_need };
+pub const PROVED: Side = Side { receiver: proved::acknowledge, need: proved::need };
+
 /// The answer of the independent receiver.
 pub fn independent(transmission: &[u8], pack: &[u8], date: &[u8], name: &[u8], out: &mut [u8]) -> u64 {
-    match twin::acknowledge(transmission, pack, date, name, out) {
+    number(twin::acknowledge(transmission, pack, date, name, out))
+}
+
+/// The need of the independent receiver.
+pub fn independent_need(transmission: &[u8], pack: &[u8], date: &[u8], name: &[u8]) -> u64 {
+    number(twin::need(transmission, pack, date, name))
+}
+
+/// A length or a refusal in the form that both sides share.
+pub fn number(answer: Result<usize, Refusal>) -> u64 {
+    match answer {
         Ok(length) => length as u64,
         Err(refusal) => (refusal as u64) << 32,
     }
@@ -57,7 +81,7 @@ fn run(arguments: &[&str]) -> Option<bool> {
         ["speed"] => speed::run(),
         ["case", seed] => {
             let seed = u64::from_str_radix(seed.strip_prefix("0x")?, 16).ok()?;
-            compare::show(proved::acknowledge, seed)
+            compare::show(PROVED, seed)
         }
         ["vectors", ref folders @ ..] => vectors::run(folders),
         _ => return None,
@@ -66,5 +90,5 @@ fn run(arguments: &[&str]) -> Option<bool> {
 }
 
 fn compare_all(cases: u64, seed: u64) -> bool {
-    compare::try_faults() && compare::sweep(proved::acknowledge) && compare::compare(proved::acknowledge, cases, seed)
+    compare::try_faults() && compare::sweep(PROVED) && compare::compare(PROVED, cases, seed)
 }

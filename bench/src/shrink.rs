@@ -1,7 +1,7 @@
 //! The smallest case of a disagreement that can be found: fewer documents, fewer records, fewer lines in the pack.
 
 use crate::cases::{Case, Room};
-use crate::compare::{Bench, Outcome};
+use crate::compare::{Bench, Outcome, most_needed, output_length};
 use crate::sound::{self, put};
 use crate::twin::layout::recap;
 use std::ops::Range;
@@ -187,7 +187,7 @@ pub fn report(bench: &mut Bench, case: Case) {
 /// Prints a case with the outcomes of both receivers.
 pub fn print(bench: &mut Bench, case: &Case) {
     println!("date {:?}, name {:?}", text(&case.date), text(&case.name));
-    println!("output of {} bytes", bench.output_length(case));
+    println!("output of {} bytes, at most {} needed", output_length(case), most_needed(&case.transmission));
     println!("transmission");
     for record in records(&case.transmission) {
         println!("  {}", text(&case.transmission[record]));
@@ -208,9 +208,10 @@ pub fn print(bench: &mut Bench, case: &Case) {
     print_outcome("proved", &found, differs);
 }
 
-/// Prints the answer, and the record in which the outputs first differ, or the whole file.
+/// Prints the need, the answer, and the record in which the outputs first differ, or the whole file.
 fn print_outcome(name: &str, outcome: &Outcome, differs: Option<usize>) {
     let length = outcome.answer as u32 as usize;
+    println!("{name} need: refusal {}, length {}", outcome.need >> 32, outcome.need as u32);
     println!("{name}: refusal {}, length {length}", outcome.answer >> 32);
     let shown = match differs {
         Some(place) => place / RECORD * RECORD..(place / RECORD + 1) * RECORD,

@@ -1,6 +1,7 @@
 //! Folders with `pack`, `transmission`, `date`, `name` and the right `ack`, tried on both receivers.
 
-use crate::{Receiver, independent, proved};
+use crate::compare::is_right_need;
+use crate::{INDEPENDENT, PROVED, Side, independent_need};
 use std::fs;
 use std::path::Path;
 
@@ -8,10 +9,9 @@ const OUTPUT: usize = 65_536;
 
 /// Reports how many folders each receiver agrees with.
 pub fn run(folders: &[&str]) -> bool {
-    let receivers: [(&str, Receiver); 2] = [("independent", independent), ("proved", proved::acknowledge)];
     let mut passed = true;
-    for (name, receiver) in receivers {
-        let wrong: Vec<_> = folders.iter().filter(|folder| !agrees(receiver, Path::new(folder))).collect();
+    for (name, side) in [("independent", INDEPENDENT), ("proved", PROVED)] {
+        let wrong: Vec<_> = folders.iter().filter(|folder| !agrees(side, Path::new(folder))).collect();
         println!("{name}: {} of {} vectors agree", folders.len() - wrong.len(), folders.len());
         for folder in &wrong {
             println!("  differs: {folder}");
@@ -21,7 +21,8 @@ pub fn run(folders: &[&str]) -> bool {
     passed
 }
 
-fn agrees(receiver: Receiver, folder: &Path) -> bool {
+/// The file is the right one, and the need is that of the independent receiver and as it should be.
+fn agrees(side: Side, folder: &Path) -> bool {
     let read = |file: &str| fs::read(folder.join(file)).unwrap_or_default();
     let argument = |file: &str| {
         let mut text = read(file);
@@ -30,9 +31,14 @@ fn agrees(receiver: Receiver, folder: &Path) -> bool {
         }
         text
     };
+    let [transmission, pack] = ["transmission", "pack"].map(read);
+    let [date, name] = ["date", "name"].map(argument);
     let mut out = vec![0; OUTPUT];
-    let answer = receiver(&read("transmission"), &read("pack"), &argument("date"), &argument("name"), &mut out);
+    let answer = (side.receiver)(&transmission, &pack, &date, &name, &mut out);
+    let need = (side.need)(&transmission, &pack, &date, &name);
     written(answer, &out) == read("ack")
+        && need == independent_need(&transmission, &pack, &date, &name)
+        && is_right_need(need, &transmission, answer, OUTPUT)
 }
 
 /// What the program `ackfile` would write.

@@ -96,8 +96,31 @@ fn count_findings(records: &[Entry]) -> u32 {
     records.iter().map(|entry| entry.findings.count_ones()).sum()
 }
 
+/// The acknowledgment file before it is written.
+pub enum File<'a, 'e> {
+    Rejected(Rejection<'a>),
+    Judged(Walked<'a, 'e>, &'a Receiver<'a>),
+}
+
+impl File<'_, '_> {
+    pub fn length(&self) -> usize {
+        match self {
+            File::Rejected(rejection) => rejection.length(),
+            File::Judged(walked, _) => length(walked),
+        }
+    }
+
+    /// Writes the file into an output of its length.
+    pub fn write(&self, out: &mut [u8]) {
+        match self {
+            File::Rejected(rejection) => rejection.write(out),
+            File::Judged(walked, receiver) => write(walked, receiver, out),
+        }
+    }
+}
+
 /// The length of the file of a judged transmission.
-pub fn length(walked: &Walked) -> usize {
+fn length(walked: &Walked) -> usize {
     let sets = documents(walked.entries).map(|records| 1 + count_findings(records).min(MOST_ERRORS) as usize);
     COPIED + RECORD * (sets.sum::<usize>() + 1)
 }
@@ -132,7 +155,7 @@ impl Accepted {
 }
 
 /// Writes the file of a judged transmission into an output of its length.
-pub fn write(walked: &Walked, receiver: &Receiver, out: &mut [u8]) {
+fn write(walked: &Walked, receiver: &Receiver, out: &mut [u8]) {
     let (copied, rest) = out.split_at_mut(COPIED);
     copied.copy_from_slice(&walked.transmission[..COPIED]);
     let mut writer = Writer { slots: rest.as_chunks_mut().0.iter_mut() };
@@ -281,12 +304,12 @@ impl Rejection<'_> {
     }
 
     /// The length of the file of a whole rejection.
-    pub fn length(&self) -> usize {
+    fn length(&self) -> usize {
         RECORD * (1 + self.codes().1)
     }
 
     /// Writes the file of a whole rejection into an output of its length.
-    pub fn write(&self, out: &mut [u8]) {
+    fn write(&self, out: &mut [u8]) {
         let (codes, count) = self.codes();
         let mut writer = Writer { slots: out.as_chunks_mut().0.iter_mut() };
         let mut key = KEY;

@@ -1,6 +1,7 @@
-//! The independent receiver: document 01 with the requests on foreign payments and on birth dates, in safe Rust, written
-//! for speed. Nothing is allocated: the walk notes each record's place and kind in a row on the stack, the judgment adds
-//! the set of its findings and a 4868's birth code, the length follows from the counts, and the file is written in one go.
+//! The independent receiver: document 01 with the requests on foreign payments, on birth dates and on how much room to
+//! lend, in safe Rust, written for speed. Nothing is allocated: the walk notes each record's place and kind in a row on
+//! the stack, the judgment adds the set of its findings and a 4868's birth code, the length follows from the counts, and
+//! the file is written in one go. Without the writing, that length is the need.
 
 #![forbid(unsafe_code)]
 
@@ -13,6 +14,7 @@ pub mod rules;
 pub mod walk;
 
 use bytes::is_date;
+pub use file::File;
 use file::Rejection;
 use judge::Receiver;
 use layout::{recap, trana};
@@ -38,6 +40,27 @@ pub fn acknowledge(
     name: &[u8],
     out: &mut [u8],
 ) -> Result<usize, Refusal> {
+    before_writing(transmission, pack, date, name, |file| {
+        let length = file.length();
+        let out = out.get_mut(..length).ok_or(Refusal::Output)?;
+        file.write(out);
+        Ok(length)
+    })?
+}
+
+/// The length of the acknowledgment file without writing it, or the refusal that any output would meet.
+pub fn need(transmission: &[u8], pack: &[u8], date: &[u8], name: &[u8]) -> Result<usize, Refusal> {
+    before_writing(transmission, pack, date, name, |file| file.length())
+}
+
+/// Lends the file before it is written.
+pub fn before_writing<T>(
+    transmission: &[u8],
+    pack: &[u8],
+    date: &[u8],
+    name: &[u8],
+    look: impl FnOnce(&File) -> T,
+) -> Result<T, Refusal> {
     if transmission.len() > LONGEST {
         return Err(Refusal::Transmission);
     }
@@ -57,33 +80,23 @@ pub fn acknowledge(
         many = [Entry::NONE; MOST_RECORDS];
         &mut many
     };
-    answer(transmission, &receiver, entries, out)
+    Ok(look(&answer(transmission, &receiver, entries)))
 }
 
 fn is_file_name(name: &[u8; 20]) -> bool {
     name.iter().all(|byte| (32..=126).contains(byte))
 }
 
-fn answer(transmission: &[u8], receiver: &Receiver, entries: &mut [Entry], out: &mut [u8]) -> Result<usize, Refusal> {
+fn answer<'a, 'e>(transmission: &'a [u8], receiver: &'a Receiver, entries: &'e mut [Entry]) -> File<'a, 'e> {
     let Some(mut walked) = walk::walk(transmission, entries) else {
-        return reject(Rejection::NoStructure, out);
+        return File::Rejected(Rejection::NoStructure);
     };
     let digits = trana::TWELVE_DIGITS.of(walked.trana);
     let accepted_before = receiver.pack.has_transmission(digits);
     let recap_differs = recap::TWELVE_DIGITS.of(walked.recap) != digits;
     if accepted_before || recap_differs {
-        return reject(Rejection::Numbers { digits, accepted_before, recap_differs }, out);
+        return File::Rejected(Rejection::Numbers { digits, accepted_before, recap_differs });
     }
     judge::judge(&mut walked, receiver);
-    let length = file::length(&walked);
-    let out = out.get_mut(..length).ok_or(Refusal::Output)?;
-    file::write(&walked, receiver, out);
-    Ok(length)
-}
-
-fn reject(rejection: Rejection, out: &mut [u8]) -> Result<usize, Refusal> {
-    let length = rejection.length();
-    let out = out.get_mut(..length).ok_or(Refusal::Output)?;
-    rejection.write(out);
-    Ok(length)
+    File::Judged(walked, receiver)
 }

@@ -21,7 +21,7 @@ use Rattle.paper.specs.File.{onAuth, setBy, orZeros, setOf}
 use Rattle.paper.proofs.Laws.{never, part-take}
 use Rattle.paper.proofs.KindLaws.{kind-length}
 use Rattle.layout.proofs.Laws.{entry-low}
-use Rattle.recordset.proofs.Laws.{length-setBy}
+use Rattle.paper.proofs.Room.{length-setOf}
 use Rattle.words.specs.Past.{numberIf, identityOf, noIdentity}
 use Rattle.walk.specs.declared.Extent.{Extent}
 use Rattle.walk.specs.Parts.{docHere, extentOf, Passed}
@@ -199,10 +199,7 @@ module _ (L : Lines) (date t : Bytes) (at : ℕ) (p : Past) (row : List ℕ) (g 
       ∙ (λ i. setBy (d .main) (known-is i) date (said i) (facts-are i) (take 96 (findings T)) (ath-is i) (births-are i))
 
   pub set-size : length (setOf T) ≡ 120 + 120 * j .found .kept
-  unfolding setOf
-  set-size =
-      length-setBy (d .main) (known d) date (letterOf T) (sightOf T .whole) (take 96 (findings T)) (any onAuth (findings T)) (birthsOf T)
-      ∙ ap (λ (k : ℕ). 120 + 120 * k) (sym kept-is)
+  set-size = omega (arith, length-setOf T, kept-is, length-take 96 (findings T))
 
   -- WHAT IT LEAVES
 

@@ -1,6 +1,6 @@
 -- The loops over the documents. Assumes nothing.
 use mathlib.Core.Path.{_≡_, refl, sym, ap, _∙_, subst}
-use mathlib.Core.Bool.{Bool, cond}
+use mathlib.Core.Bool.{Bool, true, cond}
 use mathlib.Core.List.{List, [], _∷_, _++_, map}
 use Prim.Native.Nat.{ℕ, _+_, _-_, _*_, _≤_, _<_, min}
 use native.Mathlib.Omega.{arith}
@@ -13,12 +13,7 @@ use Rattle.paper.specs.Pack.{Lines}
 use Rattle.paper.specs.Walk.{records, sound, Doc, docsOf}
 use Rattle.paper.specs.Judge.{Turn, turns, asked, isA}
 use Rattle.paper.specs.File.{setOf, acceptedIn}
-use Rattle.walk.specs.declared.Outer.the-variants.{Sound}
-use Rattle.walk.specs.Shape.{shapeOf}
-use Rattle.walk.specs.Parts.{Parts}
 use Rattle.walk.proofs.Sound.{sound-parts}
-use Rattle.walk.proofs.Loops.{shape-sound}
-use Rattle.walk.proofs.Docs.{docs-few}
 use Rattle.judge.specs.declared.Past.{Past}
 use Rattle.judge.specs.Kept.{listed}
 use Rattle.judge.specs.declared.Judged.{Judged}
@@ -27,6 +22,7 @@ use Rattle.judge.specs.Seen.{noPast, seenBy, rowAfter}
 use Rattle.judge.proofs.Seen.{starts-empty}
 use Rattle.sets.specs.Set.{setAs}
 use Rattle.paper.proofs.RecordSizes.{length-laid}
+use Rattle.paper.proofs.Room.{docs-weigh, sets-few}
 use Rattle.text.proofs.Laying.{laid-append, lent-laid}
 use Rattle.ack.specs.declared.Stand.{Stand}
 use Rattle.ack.specs.Ties.{Begins, turnsIn, setsIn, here, ahead, Going, Written, standAt}
@@ -34,15 +30,8 @@ use Rattle.ack.proofs.Onward.{said, kept-few, moved, set-here, set-size
 
 -- A SOUND TRANSMISSION
 
-module _ (t : Bytes) (n : ℕ) (sounds : shapeOf t ≡ Sound n) where
-  pub parts : Parts t
-  parts = sound-parts t (shape-sound t (shapeOf t) n refl sounds .0)
-
-  pub docs-count : n ≡ length (docsOf (records t))
-  docs-count = shape-sound t (shapeOf t) n refl sounds .1
-
-  pub begins : length t ≤ 65536 → Begins t n
-  begins h = record { short = h; long = parts .long; few = omega (arith, docs-count, docs-few t); sound = sounds }
+pub begins : (t : Bytes) (n : ℕ) → length t ≤ 65536 → sound (records t) ≡ true → n ≡ length (docsOf (records t)) → Begins t n
+begins t n h s c = record { short = h; long = sound-parts t s .long; few = omega (arith, docs-weigh t); good = s; count = c }
 
 -- after i of n documents
 pub record Touring (t : Bytes) (n i at : ℕ) (p : Past) (row : List ℕ) : Type 0 where
@@ -53,10 +42,10 @@ pub record Touring (t : Bytes) (n i at : ℕ) (p : Past) (row : List ℕ) : Type
 
 pub tour-start : (t : Bytes) (n : ℕ) (row : List ℕ) → Begins t n → length row ≡ 762 → Touring t n 0 240 noPast row
 tour-start t n row b w = record {
-  going = record { short = b .short; stands = parts t n (b .sound) .stands; space = omega arith; whole = w };
+  going = record { short = b .short; stands = sound-parts t (b .good) .stands; space = omega arith; whole = w };
   few = omega arith;
   most = b .few;
-  count = omega (arith, docs-count t n (b .sound), ap length (parts t n (b .sound) .docs));
+  count = omega (arith, b .count, ap length (sound-parts t (b .good) .docs));
 }
 
 pub tour-more : (t : Bytes) (n i at : ℕ) (p : Past) (row : List ℕ) → Touring t n i at p row → i < n → 0 < length (docsOf (records (drop at t)))
@@ -69,7 +58,7 @@ nothing (x ∷ l) h = absurd (omega arith)
 module _ (L : Lines) (date t : Bytes) where
   all-ahead : (n : ℕ) (row : List ℕ) → Begins t n → ahead L date t 240 noPast row ≡ turnsIn L date t
   unfolding ahead
-  all-ahead n row b = (λ i. turns date (starts-empty row i) (map (asked L) (sym (parts t n (b .sound) .docs) i)))
+  all-ahead n row b = (λ i. turns date (starts-empty row i) (map (asked L) (sym (sound-parts t (b .good) .docs) i)))
 
   tour-end : (n i at : ℕ) (p : Past) (row : List ℕ) → Touring t n i at p row → n ≤ i → ahead L date t at p row ≡ []
   unfolding ahead
@@ -111,7 +100,7 @@ module _ (L : Lines) (date t : Bytes) where
 
   pub record Needing (n : ℕ) (row : List ℕ) (p : Past) (at size i : ℕ) : Type 0 where
     pub tour : Touring t n i at p row
-    pub small : size ≤ 11640 * at
+    pub small : size ≤ 2031616
     pub total : size + length (setsIn (ahead L date t at p row)) ≡ length (setsIn (turnsIn L date t))
 
   pub need-start : (n : ℕ) (row : List ℕ) (p : Past) → Begins t n → length row ≡ 762 → p ≡ noPast → Needing n row p 240 0 0
@@ -123,17 +112,17 @@ module _ (L : Lines) (date t : Bytes) where
     pub need-on : i < n → (r : Judged) → r ≡ judgedOf at (here L date t at p row) p row → (next : List ℕ) → next ≡ rowAfter (here L date t at p row) p row
         → Needing n next (r .past) (at + r .judgment .size) (size + (120 + 120 * r .judgment .found .kept)) (i + 1)
     need-on h r er next en =
-        let m = tour-more t n i at p row (o .tour) h in
+        let size-on = sets-size n i at p row (o .tour) h r er next en in
         record {
           tour = tour-on n i at p row (o .tour) h r er next en;
-          small = omega (arith, o .small, kept-few L date t at p row (o .tour .going) m r er, moved L date t at p row (o .tour .going) m r er .some);
-          total = omega (arith, o .total, sets-size n i at p row (o .tour) h r er next en);
+          small = omega (arith, o .total, size-on, sets-few L date t, o .tour .going .short);
+          total = omega (arith, o .total, size-on);
         }
 
-    pub need-end : n ≤ i → (size ≡ length (setsIn (turnsIn L date t))) × (size ≤ 762839040)
+    pub need-end : n ≤ i → (size ≡ length (setsIn (turnsIn L date t))) × (size ≤ 2031616)
     need-end h =
         let z : length (setsIn (ahead L date t at p row)) ≡ 0 = ap (λ (ts : List Turn). length (setsIn ts)) (tour-end n i at p row (o .tour) h) in
-        (omega (arith, o .total), omega (arith, o .small, o .tour .going .stands .within, o .tour .going .short))
+        (omega (arith, o .total), o .small)
 
   -- THE LOOP THAT WRITES
 
@@ -141,7 +130,6 @@ module _ (L : Lines) (date t : Bytes) where
     pub tour : Touring t n i at p row
     pub same : length out ≡ length out₀
     pub small : acc ≤ i
-    pub low : to ≤ 11640 * at
     pub place : to + length (setsIn (ahead L date t at p row)) ≡ 240 + length (setsIn (turnsIn L date t))
     pub holds : laid out to (setsIn (ahead L date t at p row)) ≡ laid out₀ 240 (setsIn (turnsIn L date t))
     pub counts : acc + acceptedIn (ahead L date t at p row) ≡ acceptedIn (turnsIn L date t)
@@ -158,7 +146,6 @@ module _ (L : Lines) (date t : Bytes) where
         tour = tour-start t n row b w;
         same = refl;
         small = omega arith;
-        low = omega arith;
         place = ap (λ (ts : List Turn). 240 + length (setsIn ts)) (all-ahead n row b);
         holds = ap (λ (ts : List Turn). laid out 240 (setsIn ts)) (all-ahead n row b);
         counts = ap (λ (ts : List Turn). 0 + acceptedIn ts) (all-ahead n row b) ∙ omega arith;
@@ -189,10 +176,10 @@ module _ (L : Lines) (date t : Bytes) where
       d = r .judgment .size
 
       -- the set of this document fits
-      pub write-fits : (to + (120 + 120 * k) ≤ length out) × (to ≤ 762839040)
+      pub write-fits : (to + (120 + 120 * k) ≤ length out) × (to ≤ 2031856)
       write-fits = (
         omega (arith, o .place, o .same, sets-size n i at p row (o .tour) h r er (rowAfter (here L date t at p row) p row) refl),
-        omega (arith, o .low, o .tour .going .stands .within, o .tour .going .short),
+        omega (arith, o .place, sets-few L date t, o .tour .going .short),
       )
 
       -- the output with the set written into what is left of it
@@ -223,7 +210,6 @@ module _ (L : Lines) (date t : Bytes) where
             tour = tour-on n i at p row (o .tour) h r er next en;
             same = ap length set ∙ length-laid out to (setOf T) ∙ o .same;
             small = omega (arith, o .small);
-            low = omega (arith, o .low, moved L date t at p row g m r er .some);
             place = omega (arith, o .place, sets-size n i at p row (o .tour) h r er next en);
             holds =
                 (λ a. laid (set a) (on a) (setsIn ts)) ∙ laid-append (setOf T) (setsIn ts) out to

@@ -1,72 +1,45 @@
--- Which file: by 0822 and 0840, by the structure, and by the pack. Assumes nothing.
+-- Which file: by the route that a transmission takes, and by the rows of the pack. Assumes nothing.
 use mathlib.Core.Path.{_≡_, refl, sym, ap, _∙_, subst}
-use mathlib.Core.Bool.{Bool, true, false, not, _&&_}
-use mathlib.Core.List.{List, [], _∷_, _++_, map}
-use Prim.Native.Nat.{ℕ, _+_, _-_, _*_, _≤_, _<_}
+use mathlib.Core.List.{List, [], _∷_, map}
+use mathlib.Core.Logic.{_⊎_, ⊎-elim}
+use mathlib.Core.Option.{Option, none, some}
+use Prim.Native.Nat.{ℕ, _+_, _*_}
 use native.Mathlib.Omega.{arith}
-use borrow.Author.Tests.{lt-ltb, le-ltb}
-use lib.Dec.{eqb}
-use lib.ListN.{length, take, drop, length-take, length-drop}
+use denote.Enum.Declared.{tagOf}
+use lib.ListN.{length}
 use Rattle.paper.specs.declared.Answer.{Answer}
 use Rattle.paper.specs.declared.Answer.the-variants.{File, Refused}
 use Rattle.paper.specs.declared.Codes.{Codes}
-use Rattle.paper.specs.declared.Codes.the-variants.{C0823}
-use Rattle.paper.specs.declared.Layout.the-variants.{LTrana, LRecap}
+use Rattle.paper.specs.declared.Codes.the-variants.{C0823, C0822, C0840, C0822And0840}
+use Rattle.paper.specs.declared.Layout.the-variants.{LTrana}
 use Rattle.paper.specs.declared.Refusal.{Refusal}
-use Rattle.paper.specs.declared.Refusal.the-variants.{LongTransmission, BadPack, BadDateOrName}
-use Rattle.paper.specs.Bytes.{Bytes, bytes, zeros, same, empty}
-use Rattle.paper.specs.Layouts.{trana, entry, through}
-use Rattle.paper.specs.Pack.{Lines, Blocks, sentBefore, blocksOf, wellFormed}
-use Rattle.paper.specs.Walk.{records, sound, twelve, twelveAgain, Doc, Parsed, parsedOf, parsedIf, parse}
+use Rattle.paper.specs.Bytes.{Bytes, zeros, laid}
+use Rattle.paper.specs.Layouts.{through}
+use Rattle.paper.specs.Pack.{Blocks, linesOf, blocksOf}
+use Rattle.paper.specs.Walk.{records, Doc, Parsed, parsedOf, twelve}
 use Rattle.paper.specs.Judge.{Turn, turns, asked, start}
-use Rattle.paper.specs.File.{rejection, judged, outcomeBy, turnsOf, outcomeOf, outcome, fileFrom, fileOf}
-use Rattle.paper.specs.Fields.{validDate}
-use Rattle.paper.specs.Answer.{fileName, prescribed, roomFor, answer, refusalNumber, coded, leftBy}
+use Rattle.paper.specs.File.{codeList, rejection, judged, turnsOf, fileFrom, fileOf}
+use Rattle.paper.specs.Answer.{prescribed, roomFor, refusalOf, refusedOr, answer, refusalNumber, coded, leftBy}
+use Rattle.paper.specs.Room.{need}
+use Rattle.paper.proofs.Codes.{the-type}
+use Rattle.paper.proofs.RecordSizes.{length-rejection}
 use Rattle.pack.specs.declared.Places.{Places}
-use Rattle.pack.specs.declared.Shape.{Shape}
-use Rattle.pack.specs.declared.Shape.the-variants.{Good, Bad}
-use Rattle.pack.specs.Shape.{linesAt, shapeOf as packShape}
-use Rattle.pack.proofs.Laws.{shape-good, shape-bad, blocks-there}
-use Rattle.lookup.specs.Find.{lineIn, sought}
-use Rattle.lookup.proofs.Laws.{sent-sought, sought-lines}
-use Rattle.walk.specs.declared.Outer.{Outer}
-use Rattle.walk.specs.declared.Outer.the-variants.{Rejected, Sound}
-use Rattle.walk.specs.Shape.{shapeOf}
-use Rattle.walk.proofs.Laws.{tail}
-use Rattle.walk.proofs.Loops.{shape-sound, shape-rejected}
+use Rattle.pack.specs.Shape.{linesAt}
+use Rattle.pack.proofs.Laws.{blocks-there}
+use Rattle.lookup.specs.Find.{sought}
+use Rattle.lookup.proofs.Laws.{sought-lines}
 use Rattle.judge.specs.Judged.{searched}
 use Rattle.judge.proofs.Ties.{asked-sought}
-use Rattle.ack.specs.declared.Route.{Route}
-use Rattle.ack.specs.declared.Route.the-variants.{Reject, Judge}
 use Rattle.rejection.specs.Given.{Given}
-use Rattle.ack.specs.Ties.{blocksBy, Begins, turnsIn, judgedFile, fileBy, routeBy, routeOf}
-use Rattle.ack.proofs.Tour.{parts, begins}
+use Rattle.route.specs.declared.Route.{Route}
+use Rattle.route.specs.declared.Route.the-variants.{Refuse, Reject, Judge}
+use Rattle.route.specs.Way.{routeOf, sequenceFor, Ready}
+use Rattle.route.proofs.Laws.{refused, whole, ready}
+use Rattle.ack.specs.Ties.{Begins, turnsIn, setsIn, judgedFile}
+use Rattle.ack.proofs.Tour.{begins}
+use Rattle.ack.proofs.Whole.{file-size}
 
--- THE 12 DIGITS
-
-pub twelve-size : (t digits : Bytes) → 120 ≤ length t → digits ≡ through LTrana 60 80 (take 120 t) → length digits ≡ 12
-unfolding through entry trana
-twelve-size t digits h e =
-    ap length e ∙ length-take 12 (drop 83 (take 120 t)) ∙ omega (arith, length-drop 83 (take 120 t), length-take 120 t)
-
-pub route-told : (t digits sent again line : Bytes) (b : Bool) (r : Route) → again ≡ through LRecap 40 60 (take (length t - (length t - 120)) (drop (length t - 120) t))
-    → line ≡ lineIn 12 digits sent → b ≡ same again digits → r ≡ routeBy (not (eqb (length line) 0)) (not b) → r ≡ routeOf t digits sent
-unfolding routeOf twelveAgain
-route-told t digits sent again line b r ea el eb er =
-    er ∙ (λ i. routeBy (not (eqb (length (el i)) 0)) (not (eb i))) ∙ ap (λ (x : Bytes). routeBy (not (eqb (length (lineIn 12 digits sent)) 0)) (not (same x digits))) (ea ∙ ap (through LRecap 40 60) (tail t (length t - 120)))
-
--- THE FILE BY THEM
-
--- of a transmission with these 12 digits, and these turns
-abbrev by-route : Route → Bytes → Bytes → Parsed → List Turn → Bytes
-by-route (Reject codes) name digits p ts = rejection (digits ++ bytes "0000") codes
-by-route Judge name digits p ts = fileFrom name (judged p ts)
-
-routed : (x y : Bool) (name : Bytes) (p : Parsed) (ts : List Turn) → fileFrom name (outcomeBy x y p ts) ≡ by-route (routeBy x y) name (twelve (p .trana)) p ts
-routed true true name p ts = refl
-routed true false name p ts = refl
-routed false true name p ts = refl
-routed false false name p ts = refl
+-- BY THE ROWS OF THE PACK
 
 -- the searches in four blocks give every document the same
 same-turns : (b : Blocks) (date : Bytes) (p : Parsed) → turnsOf (sought b) date p ≡ turnsOf (searched (b .one) (b .two) (b .three) (b .four)) date p
@@ -76,82 +49,89 @@ same-turns b date p = ap (turns date start) (all (p .docs))
     all [] = refl
     all (d ∷ ds) = λ i. sym (asked-sought b d) i ∷ all ds i
 
-module _ (b : Blocks) (date name t : Bytes) (n : ℕ) (begun : Begins t n) where
-  abbrev p : Parsed
-  p = parsedOf (records t)
+-- a transmission that is judged, and four rows of its pack
+module _ (t pack date : Bytes) (n : ℕ) (places : Places) (r : Ready t pack date n places) where
+  pub begun : Begins t n
+  begun = begins t n (r .short) (r .good) (r .count)
 
-  sounds : sound (records t) ≡ true
-  sounds = shape-sound t (shapeOf t) n refl (begun .sound) .0
+  -- the file is that of its turns
+  judged-file : (name : Bytes) → prescribed t pack date name ≡ judgedFile (linesOf (blocksOf pack)) date name t
+  unfolding prescribed fileOf judgedFile
+  judged-file name = ap (fileFrom name) (r .outcome)
 
-  -- of a sound transmission
-  sound-file : (digits : Bytes) → digits ≡ through LTrana 60 80 (take 120 t)
-      → fileBy b date name t ≡ by-route (routeOf t digits (b .five)) name digits p (turnsIn (searched (b .one) (b .two) (b .three) (b .four)) date t)
-  unfolding fileBy outcome parse routeOf twelve
-  sound-file digits e =
-      let P = parts t n (begun .sound) in
-      let d : twelve (p .trana) ≡ digits = ap twelve (P .trana) ∙ sym e in
-      ap (λ (x : Bool). fileFrom name (outcomeOf (sought b) date (parsedIf x (records t)))) sounds
-      ∙ routed (not (empty (sought b sentBefore (twelve (p .trana))))) (not (same (twelveAgain (p .recap)) (twelve (p .trana)))) name p (turnsOf (sought b) date p)
-      ∙ (λ i. by-route (routeBy (not (empty (sought b 5 (d i)))) (not (same (twelveAgain (P .recap i)) (d i)))) name (d i) p (same-turns b date p i))
-      ∙ ap (λ (x : Bool). by-route (routeBy (not x) (not (same (twelveAgain (drop (length t - 120) t)) digits))) name digits p (turnsIn (searched (b .one) (b .two) (b .three) (b .four)) date t)) (sym (sent-sought b digits))
+  pub judged-size : (name : Bytes) → length (prescribed t pack date name) ≡ 360 + length (setsIn (turnsIn (linesOf (blocksOf pack)) date t))
+  judged-size name = ap length (judged-file name) ∙ file-size (linesOf (blocksOf pack)) date name t n begun
 
-  module _ (digits : Bytes) (e : digits ≡ through LTrana 60 80 (take 120 t)) (r : Route) (er : r ≡ routeOf t digits (b .five)) (out out' : Bytes) (a : Answer) where
-    pub by-reject : (codes : Codes) (sequence : Bytes) → r ≡ Reject codes → sequence ≡ digits ++ bytes "0000" → Given (rejection sequence codes) out out' a → Given (fileBy b date name t) out out' a
-    by-reject codes sequence q es g =
-        subst (λ (f : Bytes). Given f out out' a)
-        (ap (λ (s : Bytes). rejection s codes) es ∙ sym (sound-file digits e ∙ ap (λ (x : Route). by-route x name digits p (turnsIn (searched (b .one) (b .two) (b .three) (b .four)) date t)) (sym er ∙ q))) g
+  module _ (one two three four : Bytes) (e1 : one ≡ linesAt (places .one) pack) (e2 : two ≡ linesAt (places .two) pack) (e3 : three ≡ linesAt (places .three) pack) (e4 : four ≡ linesAt (places .four) pack) where
+    pub row-turns : turnsIn (searched one two three four) date t ≡ turnsIn (linesOf (blocksOf pack)) date t
+    row-turns =
+        let b = blocks-there pack places (r .there) in
+        (λ i. turnsIn (searched (e1 i) (e2 i) (e3 i) (e4 i)) date t)
+        ∙ (λ i. turnsIn (searched (b i .one) (b i .two) (b i .three) (b i .four)) date t)
+        ∙ sym (same-turns (blocksOf pack) date (parsedOf (records t)))
+        ∙ (λ i. turnsIn (sought-lines pack (r .well) i) date t)
 
-    pub by-judge : r ≡ Judge → Given (judgedFile (searched (b .one) (b .two) (b .three) (b .four)) date name t) out out' a → Given (fileBy b date name t) out out' a
-    unfolding judgedFile
-    by-judge q g =
-        subst (λ (f : Bytes). Given f out out' a)
-        (sym (sound-file digits e ∙ ap (λ (x : Route). by-route x name digits p (turnsIn (searched (b .one) (b .two) (b .three) (b .four)) date t)) (sym er ∙ q))) g
+    pub row-file : (name : Bytes) → judgedFile (searched one two three four) date name t ≡ prescribed t pack date name
+    unfolding prescribed fileOf judgedFile
+    row-file name = ap (λ (ts : List Turn). fileFrom name (judged (parsedOf (records t)) ts)) row-turns ∙ sym (judged-file name)
 
--- BY THE STRUCTURE
+-- THE 12 DIGITS OF A WHOLE REJECTION
 
-pub begun : (t : Bytes) (o : Outer) (n : ℕ) → length t ≤ 65536 → o ≡ shapeOf t → o ≡ Sound n → Begins t n
-begun t o n h e q = begins t n (sym e ∙ q) h
+pub other-codes : (c : Codes) (t digits s : Bytes) → (tagOf the-type c ≡ 1) ⊎ (tagOf the-type c ≡ 2) ⊎ (tagOf the-type c ≡ 3) → digits ≡ through LTrana 60 80 t → s ≡ laid (zeros 16) 0 digits → s ≡ sequenceFor c t
+unfolding twelve
+other-codes C0823 t digits s h e es = absurd (⊎-elim (λ h. omega arith) (⊎-elim (λ h. omega arith) (λ h. omega arith)) h)
+other-codes C0822 t digits s h e es = es ∙ ap (laid (zeros 16) 0) e
+other-codes C0840 t digits s h e es = es ∙ ap (laid (zeros 16) 0) e
+other-codes C0822And0840 t digits s h e es = es ∙ ap (laid (zeros 16) 0) e
 
-pub by-0823 : (b : Blocks) (date name t : Bytes) (o : Outer) (out out' : Bytes) (a : Answer) → o ≡ shapeOf t → o ≡ Rejected → Given (rejection (zeros 16) C0823) out out' a → Given (fileBy b date name t) out out' a
-unfolding fileBy outcome parse
-by-0823 b date name t o out out' a e q g =
-    subst (λ (f : Bytes). Given f out out' a) (sym (ap (λ (x : Bool). fileFrom name (outcomeOf (sought b) date (parsedIf x (records t)))) (shape-rejected t o e q))) g
+-- BY THE ROUTE
 
--- BY THE PACK
+module _ (t pack date name : Bytes) (w : Route) (e : w ≡ routeOf t pack date name) where
+  abbrev file : Bytes
+  file = prescribed t pack date name
 
-pub blocks-are : (s : Bytes) (p : Places) → packShape s ≡ Good p → (a b c d e : Bytes) → a ≡ linesAt (p .one) s → b ≡ linesAt (p .two) s → c ≡ linesAt (p .three) s
-    → d ≡ linesAt (p .four) s → e ≡ linesAt (p .five) s → blocksBy a b c d e ≡ blocksOf s
-blocks-are s p h a b c d e ea eb ec ed ee = (λ i. blocksBy (ea i) (eb i) (ec i) (ed i) (ee i)) ∙ blocks-there s p h
+  module _ (r : Refusal) (q : w ≡ Refuse r) where
+    is-refused : refusalOf t pack date name ≡ some r
+    is-refused = refused t pack date name r (sym e ∙ q)
 
-pub of-pack : (b : Blocks) (date name t s : Bytes) (p : Places) (out out' : Bytes) (a : Answer) → packShape s ≡ Good p → b ≡ blocksOf s → Given (fileBy b date name t) out out' a → Given (prescribed t s date name) out out' a
-unfolding fileBy prescribed fileOf
-of-pack b date name t s p out out' a h e g =
-    subst (λ (f : Bytes). Given f out out' a)
-    (ap (λ (x : Blocks). fileFrom name (outcome (sought x) date t)) e ∙ ap (λ (L : Lines). fileFrom name (outcome L date t)) (sought-lines s (shape-good s p h .0))) g
-
--- THE ANSWER
-
-module _ (t s date name : Bytes) (n : ℕ) where
-  pub long-refused : 65536 < length t → Refused LongTransmission ≡ answer t s date name n
-  unfolding answer
-  long-refused h = rw (lt-ltb 65536 (length t) h)
-
-  module _ (h : length t ≤ 65536) (o : Shape) (eo : o ≡ packShape s) where
-    pub pack-refused : o ≡ Bad → Refused BadPack ≡ answer t s date name n
+    pub refuses : (n : ℕ) → Refused r ≡ answer t pack date name n
     unfolding answer
-    pack-refused q = rw (le-ltb 65536 (length t) h, shape-bad s (sym eo ∙ q))
+    refuses n = ap (λ (x : Option Refusal). refusedOr x (roomFor n file)) (sym is-refused)
 
-    module _ (p : Places) (ep : o ≡ Good p) (a b : Bool) (ea : a ≡ validDate date) (eb : b ≡ fileName name) where
-      well : wellFormed s ≡ true
-      well = shape-good s p (sym eo ∙ ep) .0
+    pub refuses-need : Refused r ≡ need t pack date name
+    unfolding need
+    refuses-need = ap (λ (x : Option Refusal). refusedOr x (File (length file))) (sym is-refused)
 
-      pub date-refused : not (a && b) ≡ true → Refused BadDateOrName ≡ answer t s date name n
-      unfolding answer
-      date-refused q = rw (le-ltb 65536 (length t) h, well, ← ea, ← eb, q)
+  module _ (free : refusalOf t pack date name ≡ none) where
+    answers : (out out' : Bytes) (a : Answer) → Given file out out' a → (a ≡ answer t pack date name (length out)) × (out' ≡ leftBy a file out)
+    unfolding answer
+    answers out out' a g = (g .says ∙ ap (λ (x : Option Refusal). refusedOr x (roomFor (length out) file)) (sym free), g .leaves)
 
-      pub answered : (r : Answer) → not (a && b) ≡ false → r ≡ roomFor n (prescribed t s date name) → r ≡ answer t s date name n
-      unfolding answer
-      answered r q e = e ∙ rw (le-ltb 65536 (length t) h, well, ← ea, ← eb, q)
+    needs : (k : ℕ) → k ≡ length file → File k ≡ need t pack date name
+    unfolding need
+    needs k q = ap File q ∙ ap (λ (x : Option Refusal). refusedOr x (File (length file))) (sym free)
+
+  module _ (codes : Codes) (q : w ≡ Reject codes) where
+    rejected-file : file ≡ rejection (sequenceFor codes t) codes
+    unfolding prescribed fileOf
+    rejected-file = ap (fileFrom name) (whole t pack date name codes (sym e ∙ q) .1)
+
+    pub rejects : (sequence out out' : Bytes) (a : Answer) → sequence ≡ sequenceFor codes t → Given (rejection sequence codes) out out' a → (a ≡ answer t pack date name (length out)) × (out' ≡ leftBy a file out)
+    rejects sequence out out' a es g =
+        answers (whole t pack date name codes (sym e ∙ q) .0) out out' a (subst (λ (f : Bytes). Given f out out' a) (ap (λ (s : Bytes). rejection s codes) es ∙ sym rejected-file) g)
+
+    pub rejects-need : (k : ℕ) → k ≡ 120 + 120 * length (codeList codes) → File k ≡ need t pack date name
+    rejects-need k ek = needs (whole t pack date name codes (sym e ∙ q) .0) k (ek ∙ sym (ap length rejected-file ∙ length-rejection (sequenceFor codes t) codes))
+
+  module _ (n : ℕ) (places : Places) (q : w ≡ Judge n places) where
+    pub is-ready : Ready t pack date n places
+    is-ready = ready t pack date name n places (sym e ∙ q) .1
+
+    pub judges : (out out' : Bytes) (a : Answer) → Given file out out' a → (a ≡ answer t pack date name (length out)) × (out' ≡ leftBy a file out)
+    judges out out' a g = answers (ready t pack date name n places (sym e ∙ q) .0) out out' a g
+
+    pub judges-need : (k : ℕ) → k ≡ 360 + length (setsIn (turnsIn (linesOf (blocksOf pack)) date t)) → File k ≡ need t pack date name
+    judges-need k ek = needs (ready t pack date name n places (sym e ∙ q) .0) k (ek ∙ sym (judged-size t pack date n places is-ready name))
 
 -- THE CODE OF AN ANSWER
 

@@ -15,15 +15,14 @@ use Rattle.paper.specs.Pack.{Lines}
 use Rattle.paper.specs.Walk.{records, twelve, docsOf}
 use Rattle.paper.specs.Judge.{Before, Case, Turn, turn, turns, after, asked, start, known}
 use Rattle.paper.specs.File.{recapRecord, acceptedIn}
-use Rattle.paper.proofs.RecordSizes.{length-laid, length-recap}
+use Rattle.paper.proofs.RecordSizes.{length-laid}
 use Rattle.text.proofs.Laying.{laid-append}
 use Rattle.record.specs.Parts.{placed}
 use Rattle.walk.proofs.Laws.{tail}
-use Rattle.walk.proofs.Docs.{docs-few}
 use Rattle.ack.specs.declared.Done.{Done}
 use Rattle.ack.specs.Ties.{Begins, turnsIn, setsIn, judgedFile, Written}
-use Rattle.ack.proofs.Tour.{parts, docs-count}
-use Rattle.ack.proofs.Room.{docs-weigh, sets-most, forms-few, most-of}
+use Rattle.walk.proofs.Sound.{sound-parts}
+use Rattle.paper.proofs.Room.{docs-weigh, forms-few, length-sets, sets-most, sets-few, length-judged}
 
 length-turns : (date : Bytes) (b : Before) (cs : List Case) → length (turns date b cs) ≡ length cs
 length-turns date b [] = refl
@@ -34,18 +33,19 @@ module _ (L : Lines) (date name t : Bytes) (n : ℕ) (b : Begins t n) where
   ts = turnsIn L date t
 
   turns-count : length ts ≡ n
-  turns-count = length-turns date start (map (asked L) (docsOf (records t))) ∙ length-map (docsOf (records t)) (asked L) ∙ sym (docs-count t n (b .sound))
+  turns-count = length-turns date start (map (asked L) (docsOf (records t))) ∙ length-map (docsOf (records t)) (asked L) ∙ sym (b .count)
 
   sets-within : length (setsIn ts) ≤ 240 * n + 11400 * min n ((length t - 43 * n) / 341)
   sets-within =
-      let c = docs-count t n (b .sound) in
-      let m = most-of (length t) (length (docsOf (records t))) (count known (docsOf (records t))) (docs-weigh t) (forms-few (docsOf (records t))) in
-      omega (arith, sets-most L date start (records t), m, ap (λ (k : ℕ). 240 * k + 11400 * min k ((length t - 43 * k) / 341)) c)
+      let c = b .count in
+      let forms = count known (docsOf (records t)) in
+      let w : 43 * n + 341 * forms ≤ length t = omega (arith, docs-weigh t) in
+      let f : forms ≤ n = omega (arith, forms-few (docsOf (records t))) in
+      let m : length (setsIn ts) ≤ 240 * n + 11400 * forms = omega (arith, length-sets ts, sets-most L date start (records t)) in
+      omega arith
 
-  pub sets-small : length (setsIn ts) ≤ 762839040
-  sets-small =
-      let f : count known (docsOf (records t)) ≤ 65536 = omega (arith, docs-weigh t, b .short) in
-      omega (arith, sets-most L date start (records t), docs-count t n (b .sound), b .few)
+  pub sets-small : length (setsIn ts) ≤ 2031616
+  sets-small = omega (arith, sets-few L date t, b .short)
 
   pub room-for : (room : ℕ) → 360 + 240 * n + 11400 * min n ((length t - 43 * n) / 341) ≤ room → true ≡ leb (360 + length (setsIn ts)) room
   room-for room h =
@@ -53,7 +53,7 @@ module _ (L : Lines) (date name t : Bytes) (n : ℕ) (b : Begins t n) where
       sym (le-leb (360 + length (setsIn ts)) room few)
 
   pub docs-fit : 43 * n ≤ length t
-  docs-fit = omega (arith, docs-count t n (b .sound), docs-few t)
+  docs-fit = omega (arith, b .count, docs-weigh t)
 
   abbrev recap : Bytes
   recap = recapRecord (drop (length t - 120) t) (twelve (take 120 t)) (acceptedIn ts) n name
@@ -62,7 +62,7 @@ module _ (L : Lines) (date name t : Bytes) (n : ℕ) (b : Begins t n) where
   as-written : judgedFile L date name t ≡ take 240 t ++ setsIn ts ++ recap
   unfolding judgedFile
   as-written =
-      let p = parts t n (b .sound) in
+      let p = sound-parts t (b .good) in
       (λ i. p .trana i ++ p .tranb i ++ setsIn ts ++ recapRecord (p .recap i) (twelve (p .trana i)) (acceptedIn ts) (turns-count i) name)
       ∙ ap (λ (x : Bytes). x ++ setsIn ts ++ recap) (sym (take-add 120 120 t))
 
@@ -70,9 +70,8 @@ module _ (L : Lines) (date name t : Bytes) (n : ℕ) (b : Begins t n) where
   head-size = omega (arith, length-take 240 t, b .long)
 
   pub file-size : length (judgedFile L date name t) ≡ 360 + length (setsIn ts)
-  file-size =
-      ap length as-written ∙ length-append (take 240 t ++ setsIn ts) recap
-      ∙ omega (arith, length-append (take 240 t) (setsIn ts), head-size, length-recap (drop (length t - 120) t) (twelve (take 120 t)) (acceptedIn ts) n name)
+  unfolding judgedFile
+  file-size = length-judged name (records t) ts (b .good)
 
   pub file-laid : (out o1 o2 o3 digits : Bytes) (d : Done) → length (judgedFile L date name t) ≤ length out → o1 ≡ laid out 0 (take 240 t) → Written ts 240 o1 o2 d
       → digits ≡ through LTrana 60 80 (take 120 t)

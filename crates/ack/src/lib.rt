@@ -1,27 +1,25 @@
-// The acknowledgment file of a transmission, and the entry points.
+// The acknowledgment file of a transmission, how much room it needs, and the entry points.
 use judge::Past;
-use kinds::PRINTABLE;
-use kinds::all_of;
 use pack::Places;
-use pack::Shape;
 use paper::Answer;
 use paper::Codes;
 use paper::Layout;
 use paper::Letter;
 use paper::Refusal;
-use walk::Outer;
+use route::Route;
 ghost use mathlib.Core.Path.{_≡_};
-ghost use mathlib.Core.List.{_++_};
 ghost use Prim.Native.Nat.{_+_, _-_, _*_, _/_, _≤_, min};
 ghost use lib.Dec.{leb};
 ghost use lib.ListN.{length};
-ghost use Rattle.paper.specs.Bytes.{bytes, bit, laid};
+ghost use Rattle.paper.specs.Bytes.{bit, laid};
+ghost use Rattle.paper.specs.Pack.{linesOf, blocksOf};
 ghost use Rattle.paper.specs.Judge.{isA};
-ghost use Rattle.paper.specs.Answer.{fileName, prescribed, answer, refusalNumber, numberOf, lengthOf, coded, leftBy};
-ghost use Rattle.pack.specs.Shape.{shapeOf};
+ghost use Rattle.paper.specs.Answer.{prescribed, answer, refusalNumber, numberOf, lengthOf, coded, leftBy};
+ghost use Rattle.paper.specs.Room.{need, enough};
 ghost use Rattle.judge.specs.Judged.{searched};
 ghost use Rattle.rejection.specs.Given.{Given};
-ghost use Rattle.ack.specs.Ties.{standAt, blocksBy, Begins, turnsIn, setsIn, judgedFile, fileBy, routeBy, routeOf, Written};
+ghost use Rattle.route.specs.Way.{sequenceFor, Ready};
+ghost use Rattle.ack.specs.Ties.{standAt, Begins, turnsIn, setsIn, judgedFile, Written};
 
 // Where the next document starts, and what it sees of the earlier ones.
 struct Stand {
@@ -33,22 +31,6 @@ struct Stand {
 struct Done {
     to: usize,
     accepted: usize,
-}
-
-// The whole is rejected with these codes, or its documents are judged.
-enum Route {
-    Reject(Codes),
-    Judge,
-}
-
-// The 12 digits and 0000.
-fn sequence_of(twelve: &[u8]) -> [u8; 16]
-    requires { ⌜ length (now twelve) ≡ 12 ⌝ }
-    ensures { λ r. ⌜ r ≡ now (twelve .entry) ++ bytes "0000" ⌝ }
-{
-    let mut s = [b'0'; 16];
-    text::lay(&mut s, 0, twelve);
-    s
 }
 
 // THE JUDGED FILE
@@ -70,7 +52,7 @@ fn stand_at(at: usize, past: Past) -> Stand
 }
 
 // The length of the record sets of all documents.
-fn need(
+fn sets_size(
     t: &[u8],
     n: usize,
     taxpayers: &[u8],
@@ -80,7 +62,7 @@ fn need(
     date: &[u8],
 ) -> usize
     requires { ⌜ Begins (now t) n ⌝ }
-    ensures { λ r. ⌜ (r ≡ length (setsIn (turnsIn (searched (now (taxpayers .entry)) (now (banks .entry)) (now (filed .entry)) (now (states .entry))) (now (date .entry)) (now (t .entry))))) × (r ≤ 762839040) ⌝ }
+    ensures { λ r. ⌜ (r ≡ length (setsIn (turnsIn (searched (now (taxpayers .entry)) (now (banks .entry)) (now (filed .entry)) (now (states .entry))) (now (date .entry)) (now (t .entry))))) × (r ≤ 2031616) ⌝ }
 {
     let mut row = [0u32; 762];
     let mut list = [[0usize; 3]; 96];
@@ -120,7 +102,7 @@ fn lesser(a: usize, b: usize) -> usize
 // bytes more at least, has 11,400 more at most.
 fn most(size: usize, n: usize) -> usize
     requires { ⌜ (size ≤ 65536) × (43 * n ≤ size) ⌝ }
-    ensures { λ r. ⌜ r ≡ 360 + 240 * n + 11400 * min n ((size - 43 * n) / 341) ⌝ }
+    ensures { λ r. ⌜ (r ≡ 360 + 240 * n + 11400 * min n ((size - 43 * n) / 341)) × (r ≤ enough size) ⌝ }
 {
     let forms = lesser(n, (size - 43 * n) / 341);
     360 + 240 * n + 11400 * forms
@@ -143,7 +125,7 @@ fn has_room(
     if most(t.len(), n) <= room {
         return true;
     }
-    360 + need(t, n, taxpayers, banks, filed, states, date) <= room
+    360 + sets_size(t, n, taxpayers, banks, filed, states, date) <= room
 }
 
 // The record sets of all documents, written after the 240 bytes of TRANA and TRANB.
@@ -232,17 +214,23 @@ fn put_file(
 fn judge_all(
     t: &[u8],
     n: usize,
-    taxpayers: &[u8],
-    banks: &[u8],
-    filed: &[u8],
-    states: &[u8],
+    pack: &[u8],
+    places: Places,
     date: &[u8],
     name: &[u8],
     out: &mut [u8],
 ) -> Answer
-    requires { ⌜ Begins (now t) n ⌝ }
-    ensures { λ r. ⌜ Given (judgedFile (searched (now (taxpayers .entry)) (now (banks .entry)) (now (filed .entry)) (now (states .entry))) (now (date .entry)) (now (name .entry)) (now (t .entry))) (now (out .entry)) (now (out .exit)) r ⌝ }
+    requires { ⌜ Ready (now t) (now pack) (now date) n places ⌝ }
+    ensures { λ r. ⌜ Given (prescribed (now (t .entry)) (now (pack .entry)) (now (date .entry)) (now (name .entry))) (now (out .entry)) (now (out .exit)) r ⌝ }
 {
+    let one = places.one;
+    let two = places.two;
+    let three = places.three;
+    let four = places.four;
+    let taxpayers = pack::lines_at(pack, one);
+    let banks = pack::lines_at(pack, two);
+    let filed = pack::lines_at(pack, three);
+    let states = pack::lines_at(pack, four);
     if !has_room(t, n, taxpayers, banks, filed, states, date, out.len()) {
         return Answer::Refused(Refusal::ShortOutput);
     }
@@ -250,113 +238,35 @@ fn judge_all(
     Answer::File(whole)
 }
 
-// WHICH OF THE TWO
-
-fn route_by(before: bool, differs: bool) -> Route
-    ensures { λ r. ⌜ r ≡ routeBy before differs ⌝ }
-{
-    if before {
-        if differs {
-            return Route::Reject(Codes::C0822And0840);
-        }
-        return Route::Reject(Codes::C0822);
-    }
-    if differs {
-        return Route::Reject(Codes::C0840);
-    }
-    Route::Judge
-}
-
-// 0822: the 12 digits were sent before; 0840: RECAP has others.
-fn route_of(t: &[u8], twelve: &[u8], sent: &[u8]) -> Route
-    requires { ⌜ 120 ≤ length (now t) ⌝ }
-    ensures { λ r. ⌜ r ≡ routeOf (now (t .entry)) (now (twelve .entry)) (now (sent .entry)) ⌝ }
-{
-    let from = t.len() - 120;
-    let again = layout::through(Layout::LRecap, 40, 60, &t[from..]);
-    let line = lookup::line_of(sent, 12, twelve);
-    route_by(line.len() != 0, !text::is_same(again, twelve))
-}
-
-// The file of a sound transmission, by the blocks of the pack.
-fn by_twelve(
-    t: &[u8],
-    n: usize,
-    taxpayers: &[u8],
-    banks: &[u8],
-    filed: &[u8],
-    states: &[u8],
-    sent: &[u8],
-    date: &[u8],
-    name: &[u8],
-    out: &mut [u8],
-) -> Answer
-    requires { ⌜ Begins (now t) n ⌝ }
-    ensures { λ r. ⌜ Given (fileBy (blocksBy (now (taxpayers .entry)) (now (banks .entry)) (now (filed .entry)) (now (states .entry)) (now (sent .entry))) (now (date .entry)) (now (name .entry)) (now (t .entry))) (now (out .entry)) (now (out .exit)) r ⌝ }
-{
-    let twelve = layout::through(Layout::LTrana, 60, 80, &t[0..120]);
-    match route_of(t, twelve, sent) {
-        Route::Reject(codes) => {
-            let sequence = sequence_of(twelve);
-            rejection::reject(&sequence, codes, out)
-        }
-        Route::Judge => judge_all(t, n, taxpayers, banks, filed, states, date, name, out),
-    }
-}
-
-// The file of a transmission, by the blocks of the pack.
-fn by_structure(
-    t: &[u8],
-    taxpayers: &[u8],
-    banks: &[u8],
-    filed: &[u8],
-    states: &[u8],
-    sent: &[u8],
-    date: &[u8],
-    name: &[u8],
-    out: &mut [u8],
-) -> Answer
-    requires { ⌜ length (now t) ≤ 65536 ⌝ }
-    ensures { λ r. ⌜ Given (fileBy (blocksBy (now (taxpayers .entry)) (now (banks .entry)) (now (filed .entry)) (now (states .entry)) (now (sent .entry))) (now (date .entry)) (now (name .entry)) (now (t .entry))) (now (out .entry)) (now (out .exit)) r ⌝ }
-{
-    match walk::structure(t) {
-        Outer::Rejected => rejection::reject(b"0000000000000000", Codes::C0823, out),
-        Outer::Sound(n) => by_twelve(t, n, taxpayers, banks, filed, states, sent, date, name, out),
-    }
-}
-
-// The file of a transmission, by the pack whose blocks stand at these places.
-fn by_pack(
-    t: &[u8],
-    pack: &[u8],
-    places: Places,
-    date: &[u8],
-    name: &[u8],
-    out: &mut [u8],
-) -> Answer
-    requires { ⌜ (length (now t) ≤ 65536) × (shapeOf (now pack) ≡ Shape.Good places) ⌝ }
-    ensures { λ r. ⌜ Given (prescribed (now (t .entry)) (now (pack .entry)) (now (date .entry)) (now (name .entry))) (now (out .entry)) (now (out .exit)) r ⌝ }
+// The length of that file.
+fn need_all(t: &[u8], n: usize, pack: &[u8], places: Places, date: &[u8]) -> usize
+    requires { ⌜ Ready (now t) (now pack) (now date) n places ⌝ }
+    ensures { λ r. ⌜ r ≡ 360 + length (setsIn (turnsIn (linesOf (blocksOf (now (pack .entry)))) (now (date .entry)) (now (t .entry)))) ⌝ }
 {
     let one = places.one;
     let two = places.two;
     let three = places.three;
     let four = places.four;
-    let five = places.five;
     let taxpayers = pack::lines_at(pack, one);
     let banks = pack::lines_at(pack, two);
     let filed = pack::lines_at(pack, three);
     let states = pack::lines_at(pack, four);
-    let sent = pack::lines_at(pack, five);
-    by_structure(t, taxpayers, banks, filed, states, sent, date, name, out)
+    let sets = sets_size(t, n, taxpayers, banks, filed, states, date);
+    sets + 360
 }
 
 // THE ENTRY POINTS
 
-fn is_file_name(s: &[u8]) -> bool
-    ensures { λ r. ⌜ r ≡ fileName (now (s .entry)) ⌝ }
+// 0030 of a whole rejection: zeros, or the 12 digits and 0000 if not 0823.
+fn sequence_of(t: &[u8], codes: Codes) -> [u8; 16]
+    ensures { λ r. ⌜ r ≡ sequenceFor codes (now (t .entry)) ⌝ }
 {
-    let kinds = kinds::table();
-    (s.len() == 20) & all_of(&kinds, PRINTABLE, s)
+    let mut s = [b'0'; 16];
+    if let Codes::C0823 = codes {
+        return s;
+    }
+    text::lay(&mut s, 0, layout::through(Layout::LTrana, 60, 80, t));
+    s
 }
 
 // The acknowledgment file of a transmission t, written at the front of out, or a refusal, which changes no byte of out.
@@ -364,16 +274,25 @@ pub fn acknowledge(t: &[u8], pack: &[u8], date: &[u8], name: &[u8], out: &mut [u
     ensures { λ r. ⌜ r ≡ answer (now (t .entry)) (now (pack .entry)) (now (date .entry)) (now (name .entry)) (length (now (out .entry))) ⌝ }
     ensures { λ r. ⌜ now (out .exit) ≡ leftBy r (prescribed (now (t .entry)) (now (pack .entry)) (now (date .entry)) (now (name .entry))) (now (out .entry)) ⌝ }
 {
-    if 65536 < t.len() {
-        return Answer::Refused(Refusal::LongTransmission);
+    match route::choose(t, pack, date, name) {
+        Route::Refuse(refusal) => Answer::Refused(refusal),
+        Route::Reject(codes) => {
+            let sequence = sequence_of(t, codes);
+            rejection::reject(&sequence, codes, out)
+        }
+        Route::Judge(n, places) => judge_all(t, n, pack, places, date, name, out),
     }
-    let Shape::Good(places) = pack::check(pack) else {
-        return Answer::Refused(Refusal::BadPack);
-    };
-    if !(date::valid_date(date) & is_file_name(name)) {
-        return Answer::Refused(Refusal::BadDateOrName);
+}
+
+// The length of that file, worked out without writing it, or a refusal: how much to lend for it.
+pub fn need(t: &[u8], pack: &[u8], date: &[u8], name: &[u8]) -> Answer
+    ensures { λ r. ⌜ r ≡ need (now (t .entry)) (now (pack .entry)) (now (date .entry)) (now (name .entry)) ⌝ }
+{
+    match route::choose(t, pack, date, name) {
+        Route::Refuse(refusal) => Answer::Refused(refusal),
+        Route::Reject(codes) => Answer::File(rejection::size_of(codes)),
+        Route::Judge(n, places) => Answer::File(need_all(t, n, pack, places, date)),
     }
-    by_pack(t, pack, places, date, name, out)
 }
 
 fn refusal_number(r: Refusal) -> u32
@@ -429,4 +348,11 @@ pub extern "C" fn bluffcradle_acknowledge(
     ensures { λ _. ⌜ now (out .exit) ≡ leftBy (answer (now (t .entry)) (now (pack .entry)) (now (date .entry)) (now (name .entry)) (length (now (out .entry)))) (prescribed (now (t .entry)) (now (pack .entry)) (now (date .entry)) (now (name .entry))) (now (out .entry)) ⌝ }
 {
     code_of(acknowledge(t, pack, date, name, out))
+}
+
+#[no_mangle]
+pub extern "C" fn bluffcradle_need(t: &[u8], pack: &[u8], date: &[u8], name: &[u8]) -> u64
+    ensures { λ r. ⌜ r ≡ coded (need (now (t .entry)) (now (pack .entry)) (now (date .entry)) (now (name .entry))) ⌝ }
+{
+    code_of(need(t, pack, date, name))
 }

@@ -1,11 +1,14 @@
-// Everything that `ackfile` does, one after the other: each four of the arguments are what it is given, and its reply follows a heading.
+// Everything that `ackfile` and `room` do, one after the other: each four of the arguments are what they are given, and their replies follow
+// a heading.
+use desk::Ask;
 use libc::STDOUT_FILENO;
 
 fn tried(heading: &[u8], first: u32) {
     io::write_all(STDOUT_FILENO, heading);
     io::write_all(STDOUT_FILENO, b":\n");
-    desk::serve(first);
-    io::write_all(STDOUT_FILENO, b"\n");
+    desk::serve(Ask::File, first);
+    io::write_all(STDOUT_FILENO, b"\nroom: ");
+    desk::serve(Ask::Room, first);
 }
 
 fn answers() {

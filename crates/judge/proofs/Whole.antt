@@ -31,7 +31,7 @@ use Rattle.walk.specs.declared.Extent.{Extent}
 use Rattle.walk.specs.Heads.{front}
 use Rattle.walk.specs.Parts.{docIf, docHere, ownIn, extentOf}
 use Rattle.walk.proofs.Docs.{own-goes}
-use Rattle.walk.proofs.Records.{kind-none}
+use Rattle.paper.proofs.Records.{kind-none}
 use Rattle.walk.proofs.Laws.{as-part}
 use Rattle.walk.proofs.Facts.{others-here, main-here, doc-fits}
 use Rattle.judge.specs.declared.Past.{Past}

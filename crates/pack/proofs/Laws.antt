@@ -124,9 +124,9 @@ shape-bad s e = go (wellFormed s) refl e
     go false w f = w
 
 -- the lines at the five places are the pack's blocks
-pub blocks-there : (s : Bytes) (p : Places) → shapeOf s ≡ Good p
+pub blocks-there : (s : Bytes) (p : Places) → p ≡ placesOf s
     → _≡_ {A = Blocks} (record { one = linesAt (p .one) s; two = linesAt (p .two) s; three = linesAt (p .three) s; four = linesAt (p .four) s; five = linesAt (p .five) s }) (blocksOf s)
 unfolding blocksOf placesOf
 blocks-there s p e =
-    ap (λ (q : Places). record { one = linesAt (q .one) s; two = linesAt (q .two) s; three = linesAt (q .three) s; four = linesAt (q .four) s; five = linesAt (q .five) s }) (shape-good s p e .1)
+    ap (λ (q : Places). record { one = linesAt (q .one) s; two = linesAt (q .two) s; three = linesAt (q .three) s; four = linesAt (q .four) s; five = linesAt (q .five) s }) e
     ∙ (λ i. record { one = lines-there 0 s i; two = lines-there 1 s i; three = lines-there 2 s i; four = lines-there 3 s i; five = lines-there 4 s i })

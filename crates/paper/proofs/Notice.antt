@@ -21,7 +21,7 @@ use Rattle.paper.specs.Walk.{Doc, Parsed, is, kindOf, isEnded, ordered, 
 use Rattle.paper.specs.Conditions.{Sight, sight, view, controlIn, incomeIn, ofKind, unlisted, wrongIncome, formHolds, authHolds, holds, rulesOf}
 use Rattle.paper.specs.Judge.{Before, Case, Item, Turn, Finding, known, attached, ssnOf, spouseOf, stateOf, itemOf, caseOf, ifKnown, asked, start, seen, passed, after, turn, turns, sightOf, mark, findsFrom, findings, twice, letterBy, letterOf, birthsOf, isA}
 use Rattle.paper.specs.File.{recordOf, keyRecord, errorsFrom, errorOf, onAuth, setBy, setOf, recapRecord, Outcome, rejected, judged, outcomeBy, turnsOf, outcomeOf, outcome, acceptedIn, fileFrom, fileOf}
-use Rattle.paper.specs.Answer.{prescribed, answer}
+use Rattle.paper.specs.Answer.{prescribed, refusalOf, answer}
 use Rattle.paper.specs.Notice.{withoutBirth, ButBirths, lettersOf, SameLetters, quietKey, quietFirst, quiet, OnlyNotices, NoticeAnswer}
 use Rattle.paper.proofs.Laws.{never, part-take}
 use Rattle.paper.proofs.Widths.{ssn-wide, spouse-wide, first-trana, second-tranb}
@@ -375,5 +375,5 @@ only-notices t date name p q h =
     quiet-alike _ _ (alike-file t p date name) ∙ ap quiet (one-file t date name p q h) ∙ sym (quiet-alike _ _ (alike-file t q date name))
 
 pub notice-answer : NoticeAnswer
-unfolding answer
+unfolding answer refusalOf
 notice-answer t date name p q n h = rw (h .first-well, h .second-well, one-length t date name p q h)

@@ -1,10 +1,10 @@
--- What a Key shows by the form's numbers; a record set is its Key and its Error records, and its length; what is left of bytes from a place
--- on. Assumes nothing.
+-- What a Key shows by the form's numbers; a record set is its Key and its Error records; what is left of bytes from a place on. Assumes
+-- nothing.
 use mathlib.Core.Path.{_≡_, refl, sym, ap, _∙_}
-use Prim.Native.Nat.{ℕ, _+_, _-_, _*_, _≤_}
+use Prim.Native.Nat.{ℕ, _-_, _≤_}
 use mathlib.Core.Bool.{Bool, true, false, not, cond, _&&_}
-use mathlib.Core.List.{List, [], _∷_, _++_}
-use lib.ListN.{length, take, drop, length-append, length-drop}
+use mathlib.Core.List.{List, _++_}
+use lib.ListN.{length, take, drop, length-drop}
 use lib.Seq.{take-all}
 use native.Mathlib.Omega.{arith}
 use Rattle.paper.proofs.Laws.{ended}
@@ -16,8 +16,8 @@ use Rattle.paper.specs.Bytes.{Bytes, digits, zeros}
 use Rattle.paper.specs.Judge.{Finding}
 use Rattle.paper.specs.Layouts.{field}
 use Rattle.paper.specs.declared.Verdict.the-variants.{Judged}
-use Rattle.paper.specs.File.{keyRecord, orZeros, pinByte, dateFor, literalFor, errorOf, errorsFrom, setBy}
-use Rattle.paper.proofs.RecordSizes.{length-key, length-error}
+use Rattle.paper.specs.File.{keyRecord, orZeros, pinByte, dateFor, literalFor, errorsFrom, setBy}
+use Rattle.paper.proofs.RecordSizes.{length-key}
 use Rattle.words.specs.Past.{numberIf, identityOf, noIdentity}
 use Rattle.words.proofs.Digits.{none-number}
 use Rattle.recordset.specs.Key.{shownAs, keyOf}
@@ -75,26 +75,6 @@ pub length-keyOf : (main : Bytes) (known : Bool) (x : Identity) (date : Bytes) (
     → length (keyOf main known x date l f errors athFound births) ≡ 120
 unfolding keyOf
 length-keyOf main known x date l f errors athFound births = length-key _ _ _ _ _ _ _ _ _
-
-pub length-errorOf : (ssn : Bytes) (n : ℕ) (x : Finding) → length (errorOf ssn n x) ≡ 120
-unfolding errorOf
-length-errorOf ssn n x = length-error _ _ _ _ _ _ _
-
-pub length-errorsFrom : (ssn : Bytes) (n : ℕ) (xs : List Finding) → length (errorsFrom ssn n xs) ≡ 120 * length xs
-length-errorsFrom ssn n [] = refl
-length-errorsFrom ssn n (x ∷ xs) =
-    length-append (errorOf ssn n x) (errorsFrom ssn (n + 1) xs)
-    ∙ omega (arith, length-errorOf ssn n x, length-errorsFrom ssn (n + 1) xs)
-
--- 120 bytes for the Key and for each finding
-pub length-setBy : (main : Bytes) (known : Bool) (date : Bytes) (l : Letter) (f : Facts) (found : List Finding) (athFound : Bool) (births : ℕ)
-    → length (setBy main known date l f found athFound births) ≡ 120 + 120 * length found
-unfolding setBy
-length-setBy main known date l f found athFound births =
-    let ssn = orZeros known 9 (field L4868 90 main) in
-    let key = keyRecord ssn (orZeros known 16 (field L4868 7 main)) (Judged l) (pinByte known athFound f) (dateFor l date) (orZeros known 14 (field L4868 8 main)) (length found) (literalFor l f) births in
-    let keyed : length key ≡ 120 = length-key _ _ _ _ _ _ _ _ _ in
-    length-append key (errorsFrom ssn 1 found) ∙ omega (arith, keyed, length-errorsFrom ssn 1 found)
 
 -- WHAT IS LEFT OF BYTES FROM A PLACE ON
 

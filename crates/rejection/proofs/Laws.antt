@@ -6,16 +6,15 @@ use Prim.Native.Nat.{ℕ, _+_, _*_, _≤_, _<_}
 use native.Mathlib.Omega.{arith}
 use borrow.Author.Tests.{lt-ltb, le-ltb, le-leb}
 use lib.Dec.{eqb}
-use lib.ListN.{length, getD, drop, length-append}
-use lib.Seq.{sets-eq}
+use lib.ListN.{length, getD}
 use Rattle.paper.specs.declared.Answer.the-variants.{File, Refused}
 use Rattle.paper.specs.declared.Codes.{Codes}
 use Rattle.paper.specs.declared.Codes.the-variants.{C0823, C0822, C0840, C0822And0840}
 use Rattle.paper.specs.declared.Refusal.the-variants.{ShortOutput}
 use Rattle.paper.specs.declared.Verdict.the-variants.{Whole}
-use Rattle.paper.specs.Bytes.{Bytes, bytes, zeros, blanks, laid}
+use Rattle.paper.specs.Bytes.{Bytes, zeros, blanks, laid}
 use Rattle.paper.specs.File.{keyRecord, errorRecord, codeList, wholeErrors, rejection}
-use Rattle.paper.proofs.RecordSizes.{length-key, length-error}
+use Rattle.paper.proofs.RecordSizes.{length-key, length-error, length-rejection}
 use Rattle.text.proofs.Laying.{laid-append}
 use Rattle.record.specs.Parts.{placed}
 use Rattle.rejection.specs.Given.{codesBy, codeRow, Given}
@@ -38,12 +37,6 @@ laid-as o out r at h e = e ∙ ap (λ (b : Bool). cond b (laid out at r) out) (l
 abbrev pub errorFor : ℕ → ℕ → Bytes
 errorFor n code = errorRecord (zeros 9) n (blanks 6) (blanks 6) (zeros 5) (zeros 7) code
 
-length-codes : (n : ℕ) (cs : List ℕ) → length (wholeErrors n cs) ≡ 120 * length cs
-length-codes n [] = refl
-length-codes n (c ∷ cs) =
-    length-append (errorFor n c) (wholeErrors (n + 1) cs)
-    ∙ omega (arith, length-error (zeros 9) n (blanks 6) (blanks 6) (zeros 5) (zeros 7) c, length-codes (n + 1) cs)
-
 no-more : (l : Bytes) → l ≡ l ++ []
 no-more [] = refl
 no-more (x ∷ l) = ap (λ (m : Bytes). x ∷ m) (no-more l)
@@ -58,12 +51,16 @@ row-codes codes row d e = ap (λ (l : List ℕ). codesBy (getD l 0 d) (getD l 1 
     by C0840 = refl
     by C0822And0840 = refl
 
-pub codes-count : (first second : ℕ) (cs : List ℕ) → codesBy first second ≡ cs → cond (eqb second 0) 1 2 ≡ length cs
+codes-count : (first second : ℕ) (cs : List ℕ) → codesBy first second ≡ cs → cond (eqb second 0) 1 2 ≡ length cs
 codes-count first second cs e = by (eqb second 0) ∙ ap length e
   where
     by : (b : Bool) → cond b 1 2 ≡ length (cond b (first ∷ []) (first ∷ second ∷ []))
     by true = refl
     by false = refl
+
+-- of a row that is the codes', by its second
+pub errors-are : (codes : Codes) (row : List ℕ) (errors : ℕ) → row ≡ codeRow codes → errors ≡ cond (eqb (getD row 1 0) 0) 1 2 → errors ≡ length (codeList codes)
+errors-are codes row errors er ee = ee ∙ codes-count (getD row 0 0) (getD row 1 0) (codeList codes) (row-codes codes row 0 er)
 
 -- the room for one code, and for two
 pub one-fits : (b : Bool) (n : ℕ) → 120 + 120 * cond b 1 2 ≤ n → 240 ≤ n
@@ -88,11 +85,8 @@ module _ (sequence : Bytes) (codes : Codes) where
   abbrev key : ℕ → Bytes
   key n = keyRecord (zeros 9) sequence (Whole codes) 32 (zeros 8) (zeros 14) n (blanks 15) 48
 
-  pub rejection-size : (n : ℕ) → n ≡ length (codeList codes) → 120 + 120 * n ≡ length (rejection sequence codes)
-  unfolding rejection
-  rejection-size n e =
-      sym (length-append (key (length (codeList codes))) (wholeErrors 1 (codeList codes))
-      ∙ omega (arith, length-key (zeros 9) sequence (Whole codes) 32 (zeros 8) (zeros 14) (length (codeList codes)) (blanks 15) 48, length-codes 1 (codeList codes)))
+  pub rejection-size : (n : ℕ) → n ≡ 120 + 120 * length (codeList codes) → n ≡ length (rejection sequence codes)
+  rejection-size n e = omega (arith, length-rejection sequence codes)
 
   pub rejection-laid : (n : ℕ) (out o o' : Bytes) → n ≡ length (codeList codes) → o ≡ laid out 0 (key n) → o' ≡ laid o 120 (wholeErrors 1 (codeList codes))
       → o' ≡ laid out 0 (rejection sequence codes)
@@ -103,10 +97,3 @@ module _ (sequence : Bytes) (codes : Codes) where
       let h : 120 ≡ 0 + length (key m) = omega (arith, length-key (zeros 9) sequence (Whole codes) 32 (zeros 8) (zeros 14) m (blanks 15) 48) in
       e2 ∙ ap (λ (x : Bytes). laid x 120 (wholeErrors 1 (codeList codes))) e1
       ∙ (λ i. laid (laid out 0 (q i)) (h i) (wholeErrors 1 (codeList codes))) ∙ laid-append (key m) (wholeErrors 1 (codeList codes)) out 0
-
--- a text at the front of zeros
-pub padded : (t o : Bytes) (n : ℕ) → length t ≡ n → o ≡ laid (zeros (n + 4)) 0 t → n ≡ 12 → o ≡ t ++ bytes "0000"
-unfolding laid
-padded t o n l e h =
-    let f : 0 + length t ≤ length (zeros 16) = omega arith in
-    e ∙ ap (λ (k : ℕ). laid (zeros (k + 4)) 0 t) h ∙ sets-eq t (zeros 16) 0 f ∙ ap (λ (k : ℕ). t ++ drop (0 + k) (zeros 16)) (l ∙ h)

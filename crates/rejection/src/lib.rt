@@ -11,7 +11,7 @@ ghost use Prim.Native.Nat.{_+_, _*_, _/_, _%_, _≤_};
 ghost use lib.Dec.{eqb};
 ghost use lib.ListN.{length};
 ghost use Rattle.paper.specs.Bytes.{written, zeros, blanks, laid};
-ghost use Rattle.paper.specs.File.{errorRecord, wholeErrors, rejection};
+ghost use Rattle.paper.specs.File.{errorRecord, codeList, wholeErrors, rejection};
 ghost use Rattle.paper.specs.Answer.{roomFor, leftBy};
 ghost use Rattle.text.specs.Words.{little};
 ghost use Rattle.rejection.specs.Given.{codesBy, codeRow};
@@ -72,6 +72,15 @@ fn put_codes(out: &mut [u8], first: u32, second: u32)
     }
 }
 
+// The length of the file.
+pub fn size_of(codes: Codes) -> usize
+    ensures { λ r. ⌜ r ≡ 120 + 120 * length (codeList codes) ⌝ }
+{
+    let row = codes_of(codes);
+    let second = row[1];
+    120 + 120 * errors_of(second) as usize
+}
+
 // One Key with T, and an Error record a code.
 pub fn reject(sequence: &[u8], codes: Codes, out: &mut [u8]) -> Answer
     ensures { λ r. ⌜ r ≡ roomFor (length (now (out .entry))) (rejection (now (sequence .entry)) codes) ⌝ }
@@ -81,7 +90,7 @@ pub fn reject(sequence: &[u8], codes: Codes, out: &mut [u8]) -> Answer
     let first = row[0];
     let second = row[1];
     let errors = errors_of(second);
-    let size = 120 + 120 * errors as usize;
+    let size = size_of(codes);
     if out.len() < size {
         return Answer::Refused(Refusal::ShortOutput);
     }

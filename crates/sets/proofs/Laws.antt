@@ -20,7 +20,7 @@ use Rattle.rules.specs.Sets.{chosen}
 use Rattle.record.specs.Parts.{errorModel, errorBy, placed}
 use Rattle.record.proofs.Laws.{error-said}
 use Rattle.recordset.specs.Key.{shownAs, keyOf}
-use Rattle.recordset.proofs.Laws.{length-errorsFrom, length-keyOf, set-parts}
+use Rattle.recordset.proofs.Laws.{length-keyOf, set-parts}
 use Rattle.sets.specs.Set.{kindAt, foundIn, foundFrom, firsts, setAs}
 use Rattle.paper.specs.declared.Judgment.{Judgment}
 use Rattle.paper.specs.declared.Kind.{Kind}
@@ -33,7 +33,7 @@ use Rattle.paper.specs.Layouts.{field}
 use Rattle.paper.specs.Walk.{kindNumber}
 use Rattle.paper.specs.File.{errorRecord, errorOf, errorsFrom, setBy}
 use Rattle.paper.proofs.Laws.{both, never}
-use Rattle.paper.proofs.RecordSizes.{length-laid}
+use Rattle.paper.proofs.RecordSizes.{length-laid, length-errorsFrom}
 
 -- THE RULES OF A SET
 

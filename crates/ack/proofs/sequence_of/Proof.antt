@@ -1,6 +1,5 @@
-use mathlib.Core.Path.{refl}
-use Rattle.rejection.proofs.Laws.{padded}
 use denote.Ref.{now}
+use Rattle.ack.proofs.Ways.{other-codes}
 use borrow.Author.Needs.{needs}
 use Rattle.ack.proofs.sequence_of.Statement.{statement}
 use Rattle.ack.proofs.sequence_of.Tie as tie
@@ -10,7 +9,12 @@ sequence-of-spec =
     tie.close
     (tie.spec
     (λ c. search needs)
+    (λ c. search needs)
+    (λ c. search needs)
+    (λ c κs. search needs)
     (λ c κs. search needs)
     (λ c.
-    let s = c .before .before .before .before in
-    padded (now (s .args .twelve)) (c .before .lay .last .0) 12 (s .pre) (c .before .lay .ensures) refl))
+    let l = c .before in
+    let m = l .before .before .before in
+    let a = m .before .before .args in
+    other-codes (a .codes) (now (a .t)) (now (l .before .through .result)) _ (m .match .keys2) (l .before .through .ensures) (l .lay .ensures)))

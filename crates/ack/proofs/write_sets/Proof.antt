@@ -22,7 +22,7 @@ lines s = searched (now (s .args .taxpayers)) (now (s .args .banks)) (now (s .ar
 
 fits : (c : tie.After-judge Inv-loop μ-loop)
     → (c .judge .result .judgment .found .kept ≤ 96) × (c .before .before .before .before .loop .at + c .judge .result .judgment .size ≤ length (now (c .before .before .before .before .before .before .before .before .before .before .before .before .before .args .t)))
-    × (c .before .before .before .before .loop .to + (120 + 120 * c .judge .result .judgment .found .kept) ≤ length (c .before .before .before .before .loop .out)) × (c .before .before .before .before .loop .to ≤ 762839040)
+    × (c .before .before .before .before .loop .to + (120 + 120 * c .judge .result .judgment .found .kept) ≤ length (c .before .before .before .before .loop .out)) × (c .before .before .before .before .loop .to ≤ 2031856)
 fits c =
     let l = c .before .before .before .before in
     let s = l .before .before .before .before .before .before .before .before .before in

@@ -15,8 +15,6 @@ reply-spec =
     (λ c κs. search needs)
     (λ c κs. search needs)
     (λ c. search needs)
-    (λ c κs. search needs)
-    (λ c. search needs)
     (λ c.
     let k = c .before .before .before .before .before in
     let a = k .before .before .before .before .before .before .before .args in
@@ -24,9 +22,9 @@ reply-spec =
     (λ c. search needs)
     (λ c.
     let p = c .before .before in
-    let l = p .before .before .before in
-    let n = l .before in
+    let n = p .before .before in
     let e = n .before in
     let k = e .before .before .before .before in
     let a = k .before .before .before .before .before .before .before .args in
-    shows-refusal (now (a .t)) (now (a .pack)) (now (a .date)) (now (a .name)) (length (now (a .out))) (k .acknowledge .result) _ (n .number-of .result) (l .refusal-line .result) (now (a .out)) _ _ (k .acknowledge .ensures .0) (e .enum-told .given .1) (k .acknowledge .ensures .1) (n .number-of .ensures) (l .refusal-line .ensures) (p .lay .ensures)))
+    shows-refusal (now (a .t)) (now (a .pack)) (now (a .date)) (now (a .name)) (length (now (a .out))) (k .acknowledge .result) _ (n .number-of .result) (p .put-refusal .result) (now (a .out)) _ _
+    (k .acknowledge .ensures .0) (e .enum-told .given .1) (k .acknowledge .ensures .1) (n .number-of .ensures) (p .put-refusal .ensures .0) (p .put-refusal .ensures .1)))

@@ -1,8 +1,8 @@
 use Rattle.paper.specs.Answer.{fileName}
 use Rattle.kinds.proofs.Ranges.{printable-kind}
 use borrow.Author.Needs.{needs}
-use Rattle.ack.proofs.is_file_name.Statement.{statement}
-use Rattle.ack.proofs.is_file_name.Tie as tie
+use Rattle.route.proofs.is_file_name.Statement.{statement}
+use Rattle.route.proofs.is_file_name.Tie as tie
 
 pub is-file-name-spec : {M : Type 1} → statement M
 unfolding fileName
