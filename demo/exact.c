@@ -1,20 +1,15 @@
-// The receiver from a program in C: asks how much room the acknowledgment file needs, lends exactly that much, and writes the file to
-// standard output. Its arguments are those of ackfile: the pack's path, the transmission's path, the receiving date and the file name.
-// Built with the library that `rt staticlib ack` makes.
-#include <stdint.h>
+// The receiver in a program in C: asks how many bytes the acknowledgment file has, lends just as many, and writes the file to standard
+// output. Its arguments are those of ackfile: the pack's path, the transmission's path, the receiving date and the file name. It writes
+// "refused " and the number where the receiver refuses, and its status is then 1; it is 2 where something else fails.
+#include "bluffcradle.h"
 #include <stdio.h>
 #include <stdlib.h>
 #include <string.h>
 
-// Each slice is a pointer, which is not null, and a length. The answer is the refusal's number times 2 to the 32nd, plus the length.
-uint64_t bluffcradle_need(const uint8_t *sent, size_t sent_length, const uint8_t *pack, size_t pack_length, const uint8_t *date,
-                          size_t date_length, const uint8_t *name, size_t name_length);
-uint64_t bluffcradle_acknowledge(const uint8_t *sent, size_t sent_length, const uint8_t *pack, size_t pack_length, const uint8_t *date,
-                                 size_t date_length, const uint8_t *name, size_t name_length, uint8_t *out, size_t out_length);
-
 // One byte more than an input may have, so that one that is too long is refused.
 enum { LONGEST = 65537 };
 
+// A file that can't be read counts as empty.
 static size_t read_file(const char *path, uint8_t *bytes) {
     FILE *file = fopen(path, "rb");
     if (file == NULL) {
@@ -25,11 +20,15 @@ static size_t read_file(const char *path, uint8_t *bytes) {
     return length;
 }
 
+static int failed(const char *what) {
+    fprintf(stderr, "exact: %s\n", what);
+    return 2;
+}
+
 int main(int count, char **arguments) {
     static uint8_t pack[LONGEST], sent[LONGEST];
     if (count != 5) {
-        fprintf(stderr, "usage: exact PACK TRANSMISSION DATE NAME\n");
-        return 2;
+        return failed("its arguments are PACK TRANSMISSION DATE NAME");
     }
     size_t pack_length = read_file(arguments[1], pack);
     size_t sent_length = read_file(arguments[2], sent);
@@ -44,15 +43,15 @@ int main(int count, char **arguments) {
     size_t length = (size_t)need;
     uint8_t *out = malloc(length);
     if (out == NULL) {
-        return 2;
+        return failed("no memory");
     }
-    uint64_t answer = bluffcradle_acknowledge(sent, sent_length, pack, pack_length, date, date_length, name, name_length, out, length);
-    // The file of just that length: no refusal is left.
-    if (answer != need) {
-        fprintf(stderr, "lent %zu bytes, and got another answer\n", length);
-        return 2;
+    // Lent the need, the receiver answers with it.
+    if (bluffcradle_acknowledge(sent, sent_length, pack, pack_length, date, date_length, name, name_length, out, length) != need) {
+        return failed("another answer than the need");
     }
-    fwrite(out, 1, length, stdout);
+    if (fwrite(out, 1, length, stdout) != length || fflush(stdout) != 0) {
+        return failed("the file can't be written");
+    }
     free(out);
     return 0;
 }

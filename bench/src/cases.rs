@@ -6,7 +6,8 @@ use crate::sound::{self, Record, Shape, World, blank_record, put, set_count};
 use crate::twin::layout::{Place, authentication, form, payment, recap, summary, trana, tranb};
 use crate::twin::walk::Kind;
 
-const LONGEST: usize = 65_536;
+/// A longer transmission is refused, and so is a longer pack.
+pub const LONGEST: usize = 65_536;
 
 /// How long the output is.
 #[derive(Clone, Copy, PartialEq, Debug)]
@@ -15,6 +16,8 @@ pub enum Room {
     Beyond(usize),
     /// So many bytes too short.
     Short(usize),
+    /// 360 bytes and 31 times the length of the transmission, with which refusal 4 never comes.
+    Enough,
     /// A length that has nothing to do with the file.
     Any(usize),
 }
@@ -728,7 +731,8 @@ fn name(rng: &mut Prng) -> Vec<u8> {
 
 fn room(rng: &mut Prng) -> Room {
     match rng.below(20) {
-        0..14 => Room::Beyond(rng.below(300)),
+        0..13 => Room::Beyond(rng.below(300)),
+        13 => Room::Enough,
         14..17 => Room::Beyond(0),
         17 => Room::Short(1),
         18 => Room::Short(rng.between(2, 500)),

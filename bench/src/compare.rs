@@ -1,6 +1,6 @@
 //! The mass comparison: both receivers on the same cases, byte for byte.
 
-use crate::cases::{Case, Room, case, sound_case};
+use crate::cases::{Case, LONGEST, Room, case, sound_case};
 use crate::prng::Prng;
 use crate::shrink;
 use crate::tally::Tally;
@@ -8,8 +8,8 @@ use crate::twin::layout::{ack_key, form};
 use crate::twin::{self, File, Refusal};
 use crate::{INDEPENDENT, Need, Receiver, Side, independent, independent_need, number};
 
-/// Longer than any output that is lent.
-const LONGEST_OUTPUT: usize = 1 << 20;
+/// No longer output is lent: it is enough for the longest transmission that is not refused.
+const LONGEST_OUTPUT: usize = most_needed(LONGEST);
 /// The answer to two accepted documents: TRANA and TRANB, a Key each, and the Recap.
 const ACCEPTED: u64 = 600;
 const RECORD: usize = 120;
@@ -54,14 +54,16 @@ impl Bench {
     }
 }
 
-/// The output length that a case's room asks for.
+/// The output length that a case's room asks for, as far as the buffers have it.
 pub fn output_length(case: &Case) -> usize {
     let file = independent_need(&case.transmission, &case.pack, &case.date, &case.name) as u32 as usize;
-    match case.room {
+    let length = match case.room {
         Room::Beyond(more) => file + more,
         Room::Short(less) => file.saturating_sub(less),
+        Room::Enough => most_needed(case.transmission.len()),
         Room::Any(length) => length,
-    }
+    };
+    length.min(LONGEST_OUTPUT)
 }
 
 fn run<'b>(side: Side, case: &Case, buffer: &'b mut [u8], length: usize) -> Outcome<'b> {
@@ -86,12 +88,12 @@ fn agree(case: &Case, [expected, found]: &[Outcome; 2]) -> bool {
 pub fn is_right_need(need: u64, transmission: &[u8], answer: u64, length: usize) -> bool {
     let refuses = matches!(need >> 32, 1..=3);
     let follows = if refuses || need <= length as u64 { need } else { number(Err(Refusal::Output)) };
-    (refuses || need <= most_needed(transmission)) && answer == follows
+    (refuses || need <= most_needed(transmission.len()) as u64) && answer == follows
 }
 
-/// No file needs more.
-pub fn most_needed(transmission: &[u8]) -> u64 {
-    360 + 31 * transmission.len() as u64
+/// No file for a transmission of this length needs more.
+pub const fn most_needed(length: usize) -> usize {
+    360 + 31 * length
 }
 
 /// Runs `count` cases; reports what occurred, or the first disagreement with its smallest case.

@@ -36,7 +36,7 @@ fn take(bench: &mut Bench, least: &mut Case, candidate: Case) -> bool {
     taken
 }
 
-/// A sound date, a sound name, room enough, and an empty transmission or pack, where they do.
+/// A sound date, a sound name, just the room of the file, and an empty transmission or pack, where they do.
 fn plain_surroundings(bench: &mut Bench, least: &mut Case) {
     let plain = |change: &dyn Fn(&mut Case)| {
         let mut candidate = least.clone();
@@ -187,7 +187,7 @@ pub fn report(bench: &mut Bench, case: Case) {
 /// Prints a case with the outcomes of both receivers.
 pub fn print(bench: &mut Bench, case: &Case) {
     println!("date {:?}, name {:?}", text(&case.date), text(&case.name));
-    println!("output of {} bytes, at most {} needed", output_length(case), most_needed(&case.transmission));
+    println!("output of {} bytes, at most {} needed", output_length(case), most_needed(case.transmission.len()));
     println!("transmission");
     for record in records(&case.transmission) {
         println!("  {}", text(&case.transmission[record]));

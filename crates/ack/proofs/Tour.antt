@@ -119,10 +119,10 @@ module _ (L : Lines) (date t : Bytes) where
           total = omega (arith, o .total, size-on);
         }
 
-    pub need-end : n ≤ i → (size ≡ length (setsIn (turnsIn L date t))) × (size ≤ 2031616)
+    pub need-end : n ≤ i → size + 360 ≡ 360 + length (setsIn (turnsIn L date t))
     need-end h =
         let z : length (setsIn (ahead L date t at p row)) ≡ 0 = ap (λ (ts : List Turn). length (setsIn ts)) (tour-end n i at p row (o .tour) h) in
-        (omega (arith, o .total), o .small)
+        omega (arith, o .total)
 
   -- THE LOOP THAT WRITES
 

@@ -51,8 +51,8 @@ fn stand_at(at: usize, past: Past) -> Stand
     Stand { at, past }
 }
 
-// The length of the record sets of all documents.
-fn sets_size(
+// The length of the file: TRANA, TRANB and the Recap, and the record sets of all documents.
+fn file_size(
     t: &[u8],
     n: usize,
     taxpayers: &[u8],
@@ -62,7 +62,7 @@ fn sets_size(
     date: &[u8],
 ) -> usize
     requires { ⌜ Begins (now t) n ⌝ }
-    ensures { λ r. ⌜ (r ≡ length (setsIn (turnsIn (searched (now (taxpayers .entry)) (now (banks .entry)) (now (filed .entry)) (now (states .entry))) (now (date .entry)) (now (t .entry))))) × (r ≤ 2031616) ⌝ }
+    ensures { λ r. ⌜ r ≡ 360 + length (setsIn (turnsIn (searched (now (taxpayers .entry)) (now (banks .entry)) (now (filed .entry)) (now (states .entry))) (now (date .entry)) (now (t .entry)))) ⌝ }
 {
     let mut row = [0u32; 762];
     let mut list = [[0usize; 3]; 96];
@@ -89,7 +89,7 @@ fn sets_size(
         at += j.size;
         i += 1;
     }
-    size
+    size + 360
 }
 
 fn lesser(a: usize, b: usize) -> usize
@@ -125,7 +125,7 @@ fn has_room(
     if most(t.len(), n) <= room {
         return true;
     }
-    360 + sets_size(t, n, taxpayers, banks, filed, states, date) <= room
+    file_size(t, n, taxpayers, banks, filed, states, date) <= room
 }
 
 // The record sets of all documents, written after the 240 bytes of TRANA and TRANB.
@@ -223,14 +223,10 @@ fn judge_all(
     requires { ⌜ Ready (now t) (now pack) (now date) n places ⌝ }
     ensures { λ r. ⌜ Given (prescribed (now (t .entry)) (now (pack .entry)) (now (date .entry)) (now (name .entry))) (now (out .entry)) (now (out .exit)) r ⌝ }
 {
-    let one = places.one;
-    let two = places.two;
-    let three = places.three;
-    let four = places.four;
-    let taxpayers = pack::lines_at(pack, one);
-    let banks = pack::lines_at(pack, two);
-    let filed = pack::lines_at(pack, three);
-    let states = pack::lines_at(pack, four);
+    let taxpayers = pack::lines_at(pack, places.one);
+    let banks = pack::lines_at(pack, places.two);
+    let filed = pack::lines_at(pack, places.three);
+    let states = pack::lines_at(pack, places.four);
     if !has_room(t, n, taxpayers, banks, filed, states, date, out.len()) {
         return Answer::Refused(Refusal::ShortOutput);
     }
@@ -243,16 +239,11 @@ fn need_all(t: &[u8], n: usize, pack: &[u8], places: Places, date: &[u8]) -> usi
     requires { ⌜ Ready (now t) (now pack) (now date) n places ⌝ }
     ensures { λ r. ⌜ r ≡ 360 + length (setsIn (turnsIn (linesOf (blocksOf (now (pack .entry)))) (now (date .entry)) (now (t .entry)))) ⌝ }
 {
-    let one = places.one;
-    let two = places.two;
-    let three = places.three;
-    let four = places.four;
-    let taxpayers = pack::lines_at(pack, one);
-    let banks = pack::lines_at(pack, two);
-    let filed = pack::lines_at(pack, three);
-    let states = pack::lines_at(pack, four);
-    let sets = sets_size(t, n, taxpayers, banks, filed, states, date);
-    sets + 360
+    let taxpayers = pack::lines_at(pack, places.one);
+    let banks = pack::lines_at(pack, places.two);
+    let filed = pack::lines_at(pack, places.three);
+    let states = pack::lines_at(pack, places.four);
+    file_size(t, n, taxpayers, banks, filed, states, date)
 }
 
 // THE ENTRY POINTS
@@ -350,6 +341,7 @@ pub extern "C" fn bluffcradle_acknowledge(
     code_of(acknowledge(t, pack, date, name, out))
 }
 
+// The need, in the same way.
 #[no_mangle]
 pub extern "C" fn bluffcradle_need(t: &[u8], pack: &[u8], date: &[u8], name: &[u8]) -> u64
     ensures { λ r. ⌜ r ≡ coded (need (now (t .entry)) (now (pack .entry)) (now (date .entry)) (now (name .entry))) ⌝ }

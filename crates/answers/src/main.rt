@@ -1,7 +1,7 @@
 // Everything that `ackfile` and `room` do, one after the other: each four of the arguments are what they are given, and their replies follow
 // a heading.
-use desk::Ask;
 use libc::STDOUT_FILENO;
+use paper::Ask;
 
 fn tried(heading: &[u8], first: u32) {
     io::write_all(STDOUT_FILENO, heading);

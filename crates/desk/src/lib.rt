@@ -1,12 +1,7 @@
 // The receiver on files: inputs are read, and the reply is written to standard output.
 use libc::STDOUT_FILENO;
+use paper::Ask;
 ghost use Rattle.io.specs.Counts.{Counts};
-
-// What is asked of the receiver: the acknowledgment file, or how much room it needs.
-pub enum Ask {
-    File,
-    Room,
-}
 
 // A file, at the start of buf. One that can't be read counts as empty.
 pub fn read_file(path: &[u8], buf: &mut [u8]) -> usize
@@ -30,13 +25,6 @@ fn read_named(i: usize, buf: &mut [u8]) -> usize
     read_file(&path[..n], buf)
 }
 
-fn reply_to(ask: Ask, t: &[u8], pack: &[u8], date: &[u8], name: &[u8], out: &mut [u8]) -> usize {
-    match ask {
-        Ask::File => reply::reply(t, pack, date, name, out),
-        Ask::Room => reply::room(t, pack, date, name, out),
-    }
-}
-
 // Four arguments from number `first` on: the pack's path, the transmission's path, the receiving date and the name of the acknowledgment
 // file. A byte more than an input may have is read, so that one that is too long is refused.
 pub fn serve(ask: Ask, first: u32) {
@@ -50,7 +38,7 @@ pub fn serve(ask: Ask, first: u32) {
     let mut name = io::buffer();
     let n = os::arg(i + 3, &mut name);
     let mut out = io::large_buffer();
-    let size = reply_to(
+    let size = reply::reply_to(
         ask,
         &sent[..t],
         &pack[..p],

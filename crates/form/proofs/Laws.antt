@@ -14,9 +14,9 @@ use Rattle.paper.specs.Layouts.{form4868, entry, field}
 use Rattle.paper.specs.Pack.{rows}
 use Rattle.paper.specs.Conditions.{notAbove}
 use Rattle.paper.proofs.Laws.{same-eq}
-use Rattle.paper.proofs.Numbers.{before-number}
+use Rattle.paper.proofs.Numbers.{before-number, length-written}
 use Rattle.words.specs.Past.{numberIf, earlier}
-use Rattle.words.proofs.Digits.{length-written, digits-written, number-written}
+use Rattle.words.proofs.Digits.{digits-written, number-written}
 
 pub no-rows : (n w : ℕ) (s : Bytes) → eqb n 0 ≡ empty (rows n w s)
 no-rows zero w s = refl

@@ -18,7 +18,8 @@ use Rattle.paper.specs.Layouts.{form4868, entry, field}
 use Rattle.paper.specs.Judge.{start, digitsOr, isA}
 use Rattle.paper.proofs.Laws.{next, never, both, same-eq}
 use Rattle.words.specs.Past.{numberIf, identityOf, earlier}
-use Rattle.words.proofs.Digits.{length-written, digits-written, number-written, number-written-whole, written-number, same-number}
+use Rattle.paper.proofs.Numbers.{length-written}
+use Rattle.words.proofs.Digits.{digits-written, number-written, number-written-whole, written-number, same-number}
 use Rattle.judge.specs.declared.Past.{Past}
 use Rattle.judge.specs.Seen.{numbersIn, seenBy, noPast, numberAfter, nextPast, nextRow}
 

@@ -12,12 +12,11 @@ use Rattle.paper.specs.declared.Kind.{Kind}
 use Rattle.paper.specs.declared.Kind.the-variants.{TranA, TranB, Form, Unknown, Payment, Auth, Summary, Recap, Stray}
 use Rattle.paper.specs.declared.Layout.the-variants.{LPayment, LKey}
 use Rattle.paper.specs.declared.Letter.{Letter}
-use Rattle.paper.specs.declared.Order.the-variants.{First}
 use Rattle.paper.specs.declared.Verdict.{Verdict}
 use Rattle.paper.specs.Bytes.{Bytes, bytes, bit, any, those, empty, same, part, joined, firstOr, zeros, blanks, laid}
 use Rattle.paper.specs.Layouts.{ackKey, entry, field}
 use Rattle.paper.specs.Pack.{Lines, keyed, linesOf, linesIn, block, blocksOf, widthOf, taxpayers, banks, filed, states, sentBefore}
-use Rattle.paper.specs.Walk.{Doc, Parsed, is, kindOf, isEnded, ordered, records, sound, parsedOf, parsedIf, parse, twelve, twelveAgain}
+use Rattle.paper.specs.Walk.{Doc, Parsed, is, kindOf, records, sound, parsedOf, parsedIf, parse, twelve, twelveAgain}
 use Rattle.paper.specs.Conditions.{Sight, sight, view, controlIn, incomeIn, ofKind, unlisted, wrongIncome, formHolds, authHolds, holds, rulesOf}
 use Rattle.paper.specs.Judge.{Before, Case, Item, Turn, Finding, known, attached, ssnOf, spouseOf, stateOf, itemOf, caseOf, ifKnown, asked, start, seen, passed, after, turn, turns, sightOf, mark, findsFrom, findings, twice, letterBy, letterOf, birthsOf, isA}
 use Rattle.paper.specs.File.{recordOf, keyRecord, errorsFrom, errorOf, onAuth, setBy, setOf, recapRecord, Outcome, rejected, judged, outcomeBy, turnsOf, outcomeOf, outcome, acceptedIn, fileFrom, fileOf}
@@ -26,7 +25,7 @@ use Rattle.paper.specs.Notice.{withoutBirth, ButBirths, lettersOf, SameL
 use Rattle.paper.proofs.Laws.{never, part-take}
 use Rattle.paper.proofs.Widths.{ssn-wide, spouse-wide, first-trana, second-tranb}
 use Rattle.paper.proofs.RecordSizes.{length-key, length-error}
-use Rattle.paper.proofs.SameFile.{sound-ended}
+use Rattle.paper.proofs.Outcomes.{sound-ended, outcome-cases}
 
 -- A LINE WITHOUT ITS BIRTH DATE
 
@@ -331,10 +330,10 @@ by-sized true false p ts e f = tt
 by-sized false true p ts e f = tt
 by-sized false false p ts e f = (e, f)
 
-outcome-sized : (L : Lines) (date : Bytes) (b : Bool) (rs : List Bytes) → (b ≡ true → isEnded (ordered First rs) ≡ true) → Sized (outcomeOf L date (parsedIf b rs))
-outcome-sized L date false rs f = tt
-outcome-sized L date true rs f =
-    by-sized (sent L (parsedOf rs)) (differs (parsedOf rs)) (parsedOf rs) (turnsOf L date (parsedOf rs)) (first-trana rs (f refl)) (second-tranb rs (f refl))
+outcome-sized : (L : Lines) (date t : Bytes) → Sized (outcome L date t)
+outcome-sized L date t =
+    outcome-cases Sized L date t tt
+    (λ h x y. let e = sound-ended (records t) h in by-sized x y (parsedOf (records t)) (turnsOf L date (parsedOf (records t))) (first-trana (records t) e) (second-tranb (records t) e))
 
 module _ (p q : Bytes) (h : ButBirths p q) (date : Bytes) where
   outcomes-quiet : (b : Bool) (rs : List Bytes) → quietOutcome (outcomeOf (L p q h) date (parsedIf b rs)) ≡ quietOutcome (outcomeOf (M p q h) date (parsedIf b rs))
@@ -350,10 +349,8 @@ module _ (p q : Bytes) (h : ButBirths p q) (date : Bytes) where
   outcome-quiet t = outcomes-quiet (sound (records t)) (records t)
 
 alike-file : (t pack date name : Bytes) → ButNotices (prescribed t pack date name) (quietFile name (outcome (linesOf (blocksOf pack)) date t))
-unfolding prescribed fileOf outcome parse
-alike-file t pack date name =
-    file-alike name (outcomeOf (linesOf (blocksOf pack)) date (parsedIf (sound (records t)) (records t)))
-    (outcome-sized (linesOf (blocksOf pack)) date (sound (records t)) (records t) (sound-ended (records t)))
+unfolding prescribed fileOf
+alike-file t pack date name = file-alike name (outcome (linesOf (blocksOf pack)) date t) (outcome-sized (linesOf (blocksOf pack)) date t)
 
 quiet-alike : (s s' : Bytes) → ButNotices s s' → quiet s ≡ quiet s'
 quiet-alike s s' r = r .same (length s) (omega arith) ∙ ap (λ (n : ℕ). quietFirst n s') (r .long)

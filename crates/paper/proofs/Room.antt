@@ -17,50 +17,51 @@ use Rattle.paper.specs.declared.Kind.{Kind}
 use Rattle.paper.specs.declared.Kind.the-variants.{TranA, TranB, Form, Unknown, Payment, Auth, Summary, Recap, Stray}
 use Rattle.paper.specs.declared.Refusal.{Refusal}
 use Rattle.paper.specs.declared.Refusal.the-variants.{LongTransmission, BadPack, BadDateOrName, ShortOutput}
-use Rattle.paper.specs.Bytes.{Bytes, any, bit, count, those, empty, joined, same, zeros}
+use Rattle.paper.specs.Bytes.{Bytes, any, bit, count, those, joined}
 use Rattle.paper.specs.Fields.{validDate}
-use Rattle.paper.specs.Pack.{Lines, linesOf, blocksOf, sentBefore, wellFormed}
-use Rattle.paper.specs.Walk.{Doc, countOf, starts, records, named, kindOf, is, opens, own, docsOf, Parsed, parsedOf, parsedIf, parse, sound, twelve, twelveAgain}
+use Rattle.paper.specs.Pack.{Lines, linesOf, blocksOf, wellFormed}
+use Rattle.paper.specs.Walk.{Doc, countOf, starts, records, named, kindOf, is, opens, own, docsOf, Parsed, parsedOf, sound, twelve}
 use Rattle.paper.specs.Conditions.{View, view, rulesOf, holds}
 use Rattle.paper.specs.Judge.{Before, Finding, Turn, known, itemOf, ifKnown, asked, mark, findsIn, findsFrom, findings, start, turn, turns, after, letterOf, birthsOf, sightOf}
-use Rattle.paper.specs.File.{onAuth, setOf, codeList, recapRecord, Outcome, rejected, judged, outcomeBy, turnsOf, outcomeOf, outcome, acceptedIn, fileFrom, fileOf}
+use Rattle.paper.specs.File.{onAuth, setOf, codeList, recapRecord, Outcome, rejected, judged, outcomeBy, turnsOf, outcome, acceptedIn, fileFrom, fileOf}
 use Rattle.paper.specs.Answer.{fileName, prescribed, roomFor, refusalOf, refusedOr, answer, refusalNumber, numberOf, lengthOf, coded}
-use Rattle.paper.specs.Room.{need, setRecords, allRecords, fileRecords, InRecords, enough, AtMost, ExactNeed, NoNeed, NeverShort, ToldApart, AnswersApart}
+use Rattle.paper.specs.Room.{need, setRecords, allRecords, fileRecords, InRecords, enough, AtMost, NeverShort, ExactNeed, NoNeed, ToldApart, AnswersApart, NeedReads}
 use Rattle.paper.proofs.Laws.{never}
 use Rattle.paper.proofs.KindLaws.{kind-length}
 use Rattle.paper.proofs.Records.{starts-bounds, records-end, records-more, records-none, record-length, along}
 use Rattle.paper.proofs.RecordSizes.{length-recap, length-setBy, length-rejection}
 use Rattle.paper.proofs.Widths.{first-trana, second-tranb}
-use Rattle.paper.proofs.SameFile.{sound-ended}
+use Rattle.paper.proofs.Numbers.{number-plain}
+use Rattle.paper.proofs.Outcomes.{sound-ended, outcome-cases}
 
 -- WHAT DOCUMENTS WEIGH
 
 -- a document has 43 bytes or more, and a 4868 document 384 or more
-pub docs-weigh : (s : Bytes) → 43 * length (docsOf (records s)) + 341 * count known (docsOf (records s)) ≤ length s
+abbrev weight : List Doc → ℕ
+weight ds = 43 * length ds + 341 * count known ds
+
+pub docs-weigh : (s : Bytes) → weight (docsOf (records s)) ≤ length s
 unfolding kindOf named
-docs-weigh s = along (λ (x : Bytes). 43 * length (docsOf (records x)) + 341 * count known (docsOf (records x)) ≤ length x) none more stop s
+docs-weigh s = along (λ (x : Bytes). weight (docsOf (records x)) ≤ length x) none more stop s
   where
-    none : 43 * length (docsOf (records [])) + 341 * count known (docsOf (records [])) ≤ 0
+    none : weight (docsOf (records [])) ≤ 0
     none = rw records-end (omega arith)
 
-    one : (r : Bytes) (rs : List Bytes) (n : ℕ) → 43 ≤ length r → 43 * length (docsOf rs) + 341 * count known (docsOf rs) ≤ n
-        → 43 * length (docsOf (r ∷ rs)) + 341 * count known (docsOf (r ∷ rs)) ≤ length r + n
+    one : (r : Bytes) (rs : List Bytes) (n : ℕ) → 43 ≤ length r → weight (docsOf rs) ≤ n → weight (docsOf (r ∷ rs)) ≤ length r + n
     one r rs n h ih = by (opens (kindOf r)) (is Form (kindOf r)) refl
       where
-        by : (b f : Bool) → is Form (kindOf r) ≡ f
-            → 43 * length (cond b (record { main = r; others = own rs } ∷ docsOf rs) (docsOf rs)) + 341 * count known (cond b (record { main = r; others = own rs } ∷ docsOf rs) (docsOf rs)) ≤ length r + n
+        by : (b f : Bool) → is Form (kindOf r) ≡ f → weight (cond b (record { main = r; others = own rs } ∷ docsOf rs) (docsOf rs)) ≤ length r + n
         by false f e = omega arith
         by true true e = rw e (omega (arith, kind-length Form 384 r refl e))
         by true false e = rw e (omega arith)
 
-    more : (x : Bytes) → starts x ≡ true → 43 * length (docsOf (records (drop (countOf x) x))) + 341 * count known (docsOf (records (drop (countOf x) x))) ≤ length (drop (countOf x) x)
-        → 43 * length (docsOf (records x)) + 341 * count known (docsOf (records x)) ≤ length x
+    more : (x : Bytes) → starts x ≡ true → weight (docsOf (records (drop (countOf x) x))) ≤ length (drop (countOf x) x) → weight (docsOf (records x)) ≤ length x
     more x h ih =
         let long : length (take (countOf x) x) ≡ countOf x = record-length x h in
         let a = one (take (countOf x) x) (records (drop (countOf x) x)) (length (drop (countOf x) x)) (omega (arith, starts-bounds x h .0)) ih in
         rw (records-more x h) (omega (arith, a, length-drop (countOf x) x, starts-bounds x h .1))
 
-    stop : (x : Bytes) → 0 < length x → starts x ≡ false → 43 * length (docsOf (records x)) + 341 * count known (docsOf (records x)) ≤ length x
+    stop : (x : Bytes) → 0 < length x → starts x ≡ false → weight (docsOf (records x)) ≤ length x
     stop x l h = rw (records-none x l h) (omega arith)
 
 those-one : (p : ℕ → Bool) (x : ℕ) → length (those p (x ∷ [])) ≤ 1
@@ -148,30 +149,17 @@ length-judged name rs ts h =
     length-append (p .trana ++ p .tranb ++ sets) recap
     ∙ omega (arith, length-append (p .trana ++ p .tranb) sets, length-append (p .trana) (p .tranb), first-trana rs (sound-ended rs h), second-tranb rs (sound-ended rs h), length-recap (p .recap) (twelve (p .trana)) (acceptedIn ts) (length ts) name)
 
--- what becomes of a transmission: 0823 holds, or else 0822 and 0840 decide
-pub outcome-cases : (P : Outcome → Type 0) (L : Lines) (date t : Bytes) → P (rejected (zeros 16) C0823)
-    → (sound (records t) ≡ true → (x y : Bool) → P (outcomeBy x y (parsedOf (records t)) (turnsOf L date (parsedOf (records t))))) → P (outcome L date t)
-unfolding outcome parse
-outcome-cases P L date t broken either = by (sound (records t)) refl
-  where
-    p : Parsed
-    p = parsedOf (records t)
-
-    by : (b : Bool) → sound (records t) ≡ b → P (outcomeOf L date (parsedIf b (records t)))
-    by true h = either h (not (empty (L sentBefore (twelve (p .trana))))) (not (same (twelveAgain (p .recap)) (twelve (p .trana))))
-    by false h = broken
-
 module _ (L : Lines) (date name t : Bytes) where
   abbrev p : Parsed
   p = parsedOf (records t)
 
   -- a file of 120 bytes a record, and not more than the most
-  pub record Sized (o : Outcome) : Type 0 where
+  pub record Measured (o : Outcome) : Type 0 where
     pub whole : length (fileFrom name o) ≡ 120 * fileRecords o
     pub few : length (fileFrom name o) ≤ enough (length t)
 
-  rejected-sized : (sequence : Bytes) (codes : Codes) → Sized (rejected sequence codes)
-  rejected-sized sequence codes = record { whole = omega (arith, length-rejection sequence codes); few = omega (arith, length-rejection sequence codes, two codes) }
+  rejected-measured : (sequence : Bytes) (codes : Codes) → Measured (rejected sequence codes)
+  rejected-measured sequence codes = record { whole = omega (arith, length-rejection sequence codes); few = omega (arith, length-rejection sequence codes, two codes) }
     where
       two : (c : Codes) → length (codeList c) ≤ 2
       two C0823 = omega arith
@@ -179,8 +167,8 @@ module _ (L : Lines) (date name t : Bytes) where
       two C0840 = omega arith
       two C0822And0840 = omega arith
 
-  judged-sized : sound (records t) ≡ true → Sized (judged p (turnsOf L date p))
-  judged-sized h =
+  judged-measured : sound (records t) ≡ true → Measured (judged p (turnsOf L date p))
+  judged-measured h =
       let ts = turnsOf L date p in
       let size = length-judged name (records t) ts h in
       record {
@@ -188,22 +176,22 @@ module _ (L : Lines) (date name t : Bytes) where
         few = omega (arith, size, sets-few L date t);
       }
 
-  file-sized : Sized (outcome L date t)
-  file-sized = outcome-cases Sized L date t (rejected-sized _ _) either
+  file-measured : Measured (outcome L date t)
+  file-measured = outcome-cases Measured L date t (rejected-measured _ _) either
     where
-      either : sound (records t) ≡ true → (x y : Bool) → Sized (outcomeBy x y p (turnsOf L date p))
-      either h true true = rejected-sized _ _
-      either h true false = rejected-sized _ _
-      either h false true = rejected-sized _ _
-      either h false false = judged-sized h
+      either : sound (records t) ≡ true → (x y : Bool) → Measured (outcomeBy x y p (turnsOf L date p))
+      either h true true = rejected-measured _ _
+      either h true false = rejected-measured _ _
+      either h false true = rejected-measured _ _
+      either h false false = judged-measured h
 
 pub in-records : InRecords
 unfolding prescribed fileOf
-in-records t pack date name = file-sized (linesOf (blocksOf pack)) date name t .whole
+in-records t pack date name = file-measured (linesOf (blocksOf pack)) date name t .whole
 
 pub at-most : AtMost
 unfolding prescribed fileOf
-at-most t pack date name = file-sized (linesOf (blocksOf pack)) date name t .few
+at-most t pack date name = file-measured (linesOf (blocksOf pack)) date name t .few
 
 -- THE ANSWER
 
@@ -290,3 +278,11 @@ unfolding need answer
 answers-apart t pack date name n =
     let q = refusalOf t pack date name in
     (apart _ (small t pack date name q _ refl (at-longest t pack date name n)), apart _ (small t pack date name q (File _) refl (omega arith)))
+
+pub need-reads : NeedReads
+unfolding need
+need-reads t pack date name k e = number-plain 7 k (omega (arith, small-need (refusalOf t pack date name) refl e))
+  where
+    small-need : (q : Option Refusal) → refusalOf t pack date name ≡ q → refusedOr q (File (length (prescribed t pack date name))) ≡ File k → k < 10000000
+    small-need (some q) l e = let z : _≡_ {A = ℕ} 0 1 = cc in absurd (omega arith)
+    small-need none l e = let q : length (prescribed t pack date name) ≡ k = ap lengthOf e in omega (arith, not-refused t pack date name l .0, at-most t pack date name)

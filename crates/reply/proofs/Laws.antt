@@ -11,12 +11,13 @@ use lib.ListN.{length, take, drop, length-drop}
 use lib.Seq.{take-all, drop-append-seam, drop-append-le}
 use Rattle.paper.specs.declared.Answer.{Answer}
 use Rattle.paper.specs.declared.Answer.the-variants.{File, Refused}
+use Rattle.paper.specs.declared.Ask.{Ask}
 use Rattle.paper.specs.declared.Refusal.{Refusal}
 use Rattle.paper.specs.declared.Refusal.the-variants.{ShortOutput}
 use Rattle.paper.specs.Bytes.{Bytes, bytes, written, plain, laid}
 use Rattle.paper.specs.Answer.{prescribed, refusalOf, refusedOr, answer, refusalNumber, numberOf, leftBy, shown}
-use Rattle.paper.specs.Room.{needShown}
-use Rattle.words.proofs.Digits.{length-written}
+use Rattle.paper.specs.Room.{needShown, told}
+use Rattle.paper.proofs.Numbers.{length-written}
 use Rattle.reply.specs.Digits.{leads}
 
 -- THE FILE, OR A REFUSAL
@@ -26,9 +27,9 @@ module _ (t pack date name : Bytes) (room : ℕ) where
   file = prescribed t pack date name
 
   -- the length that an answer tells is the file's
-  told : (n : ℕ) → answer t pack date name room ≡ File n → n ≡ length (prescribed t pack date name)
+  same-length : (n : ℕ) → answer t pack date name room ≡ File n → n ≡ length (prescribed t pack date name)
   unfolding answer
-  told n e = by (refusalOf t pack date name) (ltb room (length file)) e
+  same-length n e = by (refusalOf t pack date name) (ltb room (length file)) e
     where
       by : (r : Option Refusal) (short : Bool) → refusedOr r (cond short (Refused ShortOutput) (File (length file))) ≡ File n → n ≡ length file
       by (some r) short e = cc
@@ -39,7 +40,7 @@ module _ (t pack date name : Bytes) (room : ℕ) where
       → (n ≡ length (shown (answer t pack date name room) file)) × (out' ≡ laid out 0 (shown (answer t pack date name room) file))
   shows-file a n out out' ea en eo =
       let e : answer t pack date name room ≡ File n = sym ea ∙ en in
-      (rw e (told n e), rw e (rw en at eo))
+      (rw e (same-length n e), rw e (rw en at eo))
 
   pub shows-refusal : (a : Answer) (r : Refusal) (number k : ℕ) (out out1 out2 : Bytes) → a ≡ answer t pack date name room → a ≡ Refused r → out1 ≡ leftBy a file out
       → number ≡ numberOf a → k ≡ 10 → out2 ≡ laid out1 0 (bytes "refused " ++ written 1 number ++ 10 ∷ [])
@@ -64,6 +65,13 @@ tells-refusal a need r number k out out' ea er en ek eo =
     let e : Refused r ≡ need = sym er ∙ ea in
     let m : number ≡ refusalNumber r = en ∙ ap numberOf er in
     (ek ∙ ap (λ (x : Answer). length (needShown x)) e, eo ∙ ap (λ (x : ℕ). laid out 0 (bytes "refused " ++ written 1 x ++ 10 ∷ [])) m ∙ ap (λ (x : Answer). laid out 0 (needShown x)) e)
+
+-- WHAT IS ASKED
+
+pub asked-as : (x y : Ask) (t pack date name : Bytes) (n k : ℕ) (out out' : Bytes) → x ≡ y → k ≡ length (told y t pack date name n) → out' ≡ laid out 0 (told y t pack date name n)
+    → (k ≡ length (told x t pack date name n)) × (out' ≡ laid out 0 (told x t pack date name n))
+asked-as x y t pack date name n k out out' e ek eo =
+    (ek ∙ ap (λ (z : Ask). length (told z t pack date name n)) (sym e), eo ∙ ap (λ (z : Ask). laid out 0 (told z t pack date name n)) (sym e))
 
 -- A NUMBER'S OWN DIGITS
 

@@ -1,12 +1,13 @@
 // What a program writes for a transmission: the acknowledgment file, or how much room it needs; or "refused ", the number and a line end.
 use paper::Answer;
+use paper::Ask;
 ghost use mathlib.Core.Path.{_≡_};
 ghost use mathlib.Core.List.{[], _∷_, _++_};
 ghost use Prim.Native.Nat.{_≤_};
 ghost use lib.ListN.{length};
 ghost use Rattle.paper.specs.Bytes.{bytes, written, plain, laid};
 ghost use Rattle.paper.specs.Answer.{prescribed, answer, shown};
-ghost use Rattle.paper.specs.Room.{need, needShown};
+ghost use Rattle.paper.specs.Room.{need, needShown, told};
 ghost use Rattle.reply.specs.Digits.{leads};
 
 const LINE_END: u8 = b'\n';
@@ -93,7 +94,7 @@ pub fn reply(t: &[u8], pack: &[u8], date: &[u8], name: &[u8], out: &mut [u8]) ->
 }
 
 // The need, in the same way.
-pub fn room(t: &[u8], pack: &[u8], date: &[u8], name: &[u8], out: &mut [u8]) -> usize
+fn room(t: &[u8], pack: &[u8], date: &[u8], name: &[u8], out: &mut [u8]) -> usize
     ensures { λ r. ⌜ r ≡ length (needShown (need (now (t .entry)) (now (pack .entry)) (now (date .entry)) (now (name .entry)))) ⌝ }
     ensures { λ _. ⌜ now (out .exit) ≡ laid (now (out .entry)) 0 (needShown (need (now (t .entry)) (now (pack .entry)) (now (date .entry)) (now (name .entry)))) ⌝ }
 {
@@ -101,5 +102,16 @@ pub fn room(t: &[u8], pack: &[u8], date: &[u8], name: &[u8], out: &mut [u8]) -> 
     match a {
         Answer::File(n) => put_number(n, out),
         Answer::Refused(_) => put_refusal(ack::number_of(a), out),
+    }
+}
+
+// What is asked, in the same way.
+pub fn reply_to(ask: Ask, t: &[u8], pack: &[u8], date: &[u8], name: &[u8], out: &mut [u8]) -> usize
+    ensures { λ r. ⌜ r ≡ length (told ask (now (t .entry)) (now (pack .entry)) (now (date .entry)) (now (name .entry)) (length (now (out .entry)))) ⌝ }
+    ensures { λ _. ⌜ now (out .exit) ≡ laid (now (out .entry)) 0 (told ask (now (t .entry)) (now (pack .entry)) (now (date .entry)) (now (name .entry)) (length (now (out .entry)))) ⌝ }
+{
+    match ask {
+        Ask::File => reply(t, pack, date, name, out),
+        Ask::Room => room(t, pack, date, name, out),
     }
 }

@@ -18,15 +18,15 @@ use Rattle.paper.specs.Bytes.{Bytes, bytes, same, empty, zeros, laid}
 use Rattle.paper.specs.Fields.{validDate}
 use Rattle.paper.specs.Layouts.{trana, entry, through}
 use Rattle.paper.specs.Pack.{Lines, Blocks, sentBefore, linesOf, blocksOf, wellFormed}
-use Rattle.paper.specs.Walk.{records, sound, docsOf, twelve, twelveAgain, Parsed, parsedOf, parsedIf, parse}
+use Rattle.paper.specs.Walk.{records, sound, twelve, twelveAgain, Parsed, parsedOf, parsedIf, parse}
 use Rattle.paper.specs.Judge.{Turn}
 use Rattle.paper.specs.File.{Outcome, rejected, judged, outcomeBy, turnsOf, outcomeOf, outcome}
 use Rattle.paper.specs.Answer.{fileName, refusalOf}
 use Rattle.paper.specs.Hidden.{outcomeWith}
 use Rattle.paper.proofs.Laws.{part-take}
 use Rattle.paper.proofs.Widths.{twelve-wide}
-use Rattle.paper.proofs.SameFile.{sound-ended}
-use Rattle.paper.proofs.Room.{outcome-cases, not-refused}
+use Rattle.paper.proofs.Outcomes.{sound-ended, outcome-cases}
+use Rattle.paper.proofs.Room.{not-refused}
 use Rattle.pack.specs.declared.Places.{Places}
 use Rattle.pack.specs.declared.Shape.{Shape}
 use Rattle.pack.specs.declared.Shape.the-variants.{Good, Bad}
@@ -159,28 +159,26 @@ module _ (t pack date name : Bytes) where
       either h false false none e = let z : _≡_ {A = ℕ} 0 1 = cc in absurd (omega arith)
 
   -- judged
-  record Judges (n : ℕ) (places : Places) (q : Option Refusal) (o : Outcome) : Type 0 where
-    pub free : q ≡ none
-    pub good : sound (records t) ≡ true
-    pub count : n ≡ length (docsOf (records t))
-    pub there : places ≡ placesOf pack
-    pub judges : o ≡ judged p (turnsOf L date p)
+  abbrev Judges : ℕ → Places → Outcome → Type 0
+  Judges n places o = outcomeWith pack date t ≡ o → (q : Option Refusal) → refusalOf t pack date name ≡ q → refuseOr q (wayOf (placesOf pack) o) ≡ Judge n places
+      → (q ≡ none) × Ready t pack date n places
 
   pub ready : (n : ℕ) (places : Places) → routeOf t pack date name ≡ Judge n places → (refusalOf t pack date name ≡ none) × Ready t pack date n places
   unfolding routeOf
-  ready n places e =
-      let said = outcome-cases (λ (o : Outcome). (q : Option Refusal) → refuseOr q (wayOf (placesOf pack) o) ≡ Judge n places → Judges n places q o) L date t (no C0823) either (refusalOf t pack date name) e in
-      let fine = not-refused t pack date name (said .free) in
-      (said .free, record { short = fine .0; well = fine .1; there = said .there; good = said .good; count = said .count; outcome = said .judges })
+  ready n places e = outcome-cases (Judges n places) L date t (no (zeros 16) C0823) either refl (refusalOf t pack date name) refl e
     where
-      no : {o : Outcome} (c : Codes) (q : Option Refusal) → refuseOr q (Reject c) ≡ Judge n places → Judges n places q o
-      no c (some q) e = let z : _≡_ {A = ℕ} 0 1 = cc in absurd (omega arith)
-      no c none e = let z : _≡_ {A = ℕ} 0 1 = cc in absurd (omega arith)
+      no : (sequence : Bytes) (c : Codes) → Judges n places (rejected sequence c)
+      no sequence c o (some q) l e = let z : _≡_ {A = ℕ} 0 1 = cc in absurd (omega arith)
+      no sequence c o none l e = let z : _≡_ {A = ℕ} 0 1 = cc in absurd (omega arith)
 
-      either : sound (records t) ≡ true → (x y : Bool) (q : Option Refusal) → refuseOr q (wayOf (placesOf pack) (outcomeBy x y p (turnsOf L date p))) ≡ Judge n places
-          → Judges n places q (outcomeBy x y p (turnsOf L date p))
-      either h true true q e = no C0822And0840 q e
-      either h true false q e = no C0822 q e
-      either h false true q e = no C0840 q e
-      either h false false (some q) e = let z : _≡_ {A = ℕ} 0 1 = cc in absurd (omega arith)
-      either h false false none e = record { free = refl; good = h; count = cc; there = cc; judges = refl }
+      yes : sound (records t) ≡ true → Judges n places (judged p (turnsOf L date p))
+      yes h o (some q) l e = let z : _≡_ {A = ℕ} 0 1 = cc in absurd (omega arith)
+      yes h o none l e =
+          let fine = not-refused t pack date name l in
+          (refl, record { short = fine .0; well = fine .1; there = cc; good = h; count = cc; outcome = o })
+
+      either : sound (records t) ≡ true → (x y : Bool) → Judges n places (outcomeBy x y p (turnsOf L date p))
+      either h true true = no _ C0822And0840
+      either h true false = no _ C0822
+      either h false true = no _ C0840
+      either h false false = yes h

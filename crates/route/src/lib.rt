@@ -70,7 +70,6 @@ pub fn choose(t: &[u8], pack: &[u8], date: &[u8], name: &[u8]) -> Route
     let Outer::Sound(n) = walk::structure(t) else {
         return Route::Reject(Codes::C0823);
     };
-    let five = places.five;
-    let sent = pack::lines_at(pack, five);
+    let sent = pack::lines_at(pack, places.five);
     by_digits(t, n, places, sent)
 }

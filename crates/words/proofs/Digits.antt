@@ -6,28 +6,18 @@ use mathlib.Core.Path.{_≡_, refl, sym, ap, _∙_}
 use native.Mathlib.Nat.{mul-assoc, pow-suc, one-le-pow, mod-lt, mod-eq-of-lt, div-add-mod', mul-add-mod-self-right}
 use native.Mathlib.Omega.{arith}
 use lib.Dec.{eqb, leb}
-use lib.ListN.{length, take, length-append}
+use lib.ListN.{length, take}
 use borrow.Author.Tests.{eq-eqb, ne-eqb, eqb-true, le-leb, leb-true}
 use Rattle.paper.specs.Bytes.{Bytes, run, same, digits, isDigit, digitOn, number, written}
 use Rattle.paper.proofs.Laws.{both, same-eq, same-self}
+use Rattle.paper.proofs.Numbers.{value-append}
 use Rattle.words.specs.Past.{numberIf}
-
-value-append : (s t : Bytes) (a : ℕ) → run digitOn a (s ++ t) ≡ run digitOn (run digitOn a s) t
-value-append [] t a = refl
-value-append (x ∷ s) t a = value-append s t (digitOn a x)
 
 digits-append : (s t : Bytes) → digits s ≡ true → digits t ≡ true → digits (s ++ t) ≡ true
 digits-append [] t h g = g
 digits-append (x ∷ s) t h g =
     let b = both (isDigit x) (digits s) h in
     rw (b .0) (digits-append s t (b .1) g)
-
-pub length-written : (w n : ℕ) → length (written w n) ≡ w
-length-written zero n = refl
-length-written (suc w) n =
-    let e = length-append (written w (n / 10)) ((n % 10 + 48) ∷ []) in
-    let h = length-written w (n / 10) in
-    omega arith
 
 digit : (n : ℕ) → isDigit (n % 10 + 48) ≡ true
 digit n = rw (le-leb 48 (n % 10 + 48) (omega arith), le-leb (n % 10 + 48) 57 (omega arith))

@@ -20,5 +20,4 @@ has-room-spec =
     let s = m .before .before .before .before .before .before .before in
     room-for (lines s) (now (s .args .date)) (now (s .args .date)) (now (s .args .t)) (s .args .n) (s .pre) (s .args .room) (omega (arith, m .most .ensures .0)))
     (λ c κs. search needs)
-    (λ c. search needs)
-    (λ c. rw (c .sets-size .ensures .0)))
+    (λ c. rw (c .file-size .ensures)))

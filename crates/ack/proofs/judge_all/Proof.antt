@@ -20,7 +20,7 @@ use Rattle.ack.proofs.judge_all.Tie as tie
 -- where the four rows are read
 module _ (l : tie.After-lines-at4) where
   abbrev s : tie.Start
-  s = l .before .before .before .before .before .before .before .before .before .before .before .before .before
+  s = l .before .before .before .before .before .before .before .before .before
 
   abbrev lines : Lines
   lines = searched (now (l .before .before .before .lines-at .result)) (now (l .before .before .lines-at2 .result)) (now (l .before .lines-at3 .result)) (now (l .lines-at4 .result))

@@ -57,13 +57,13 @@ choose-spec =
     broken (now (a .t)) (now (a .pack)) (now (a .date)) (now (a .name)) (none-refused o) (o .structure .result) (o .structure .ensures) (c .enum-told2 .given .1))
     (λ c κs. search needs)
     (λ c κs.
-    let g = c .before .before .before .n .given in
-    let o = c .before .before .before .before .before in
+    let g = c .before .before .n .given in
+    let o = c .before .before .before .before in
     long-enough (now (start (checked o) .args .t)) (o .structure .result) (g .0 .0) (o .structure .ensures) (g .1))
     (λ c.
     let l = c .before in
-    let g = l .before .before .before .n .given in
-    let o = l .before .before .before .before .before in
+    let g = l .before .before .n .given in
+    let o = l .before .before .before .before in
     let h = o .before .before .before .before .before .places .given in
     let k = checked o in
     let a = start k .args in

@@ -6,8 +6,8 @@ use Rattle.paper.specs.Pack.{Lines}
 use Rattle.judge.specs.Judged.{searched}
 use Rattle.ack.proofs.Tour.{Needing, need-start, need-on, need-end, tour-fits}
 use borrow.Author.Needs.{needs}
-use Rattle.ack.proofs.sets_size.Statement.{statement}
-use Rattle.ack.proofs.sets_size.Tie as tie
+use Rattle.ack.proofs.file_size.Statement.{statement}
+use Rattle.ack.proofs.file_size.Tie as tie
 
 abbrev Inv-loop : tie.InvT-loop
 Inv-loop t n taxpayers banks filed states date row₀ list₀ past₀ at₀ size₀ i₀ row list past at size i = Needing (searched taxpayers banks filed states) date t n row past at size i
@@ -26,8 +26,8 @@ fits c =
     let f = tour-fits (lines s) (now (s .args .date)) (now (s .args .t)) (s .args .n) (l .loop .i) (l .loop .at) (l .loop .past) (l .loop .row) (l .loop .inv .tour) (c .before .before .before .loop-test .taken) (c .judge .result) (c .judge .ensures .0) in
     (f .0, omega arith)
 
-pub sets-size-spec : {M : Type 1} → statement M
-sets-size-spec =
+pub file-size-spec : {M : Type 1} → statement M
+file-size-spec =
     tie.close
     (tie.spec
     Inv-loop
@@ -47,6 +47,7 @@ sets-size-spec =
     let l = g .before .before .before .before in
     let s = l .before .before .before .before .before .before .before .before in
     need-on (lines s) (now (s .args .date)) (now (s .args .t)) (s .args .n) (l .loop .row) (l .loop .past) (l .loop .at) (l .loop .size) (l .loop .i) (l .loop .inv) (g .before .before .before .loop-test .taken) (g .judge .result) (g .judge .ensures .0) _ (g .judge .ensures .1 .0))
+    (λ c. search needs)
     (λ c.
     let l = c .before in
     let s = l .before .before .before .before .before .before .before .before in
