@@ -33,7 +33,7 @@ abbrev pub told : Ask → Bytes → Bytes → Bytes → Bytes → ℕ → Bytes
 told Ask.File t pack date name n = shown (answer t pack date name n) (prescribed t pack date name)
 told Ask.Room t pack date name n = needShown (need t pack date name)
 
--- "a transmission of L bytes never needs more than 360 plus 31 × L bytes"
+-- the bound: "a transmission of L bytes never needs more than 360 plus 31 × L bytes"
 abbrev pub enough : ℕ → ℕ
 enough l = 360 + 31 * l
 
@@ -58,11 +58,11 @@ fileRecords (judged p ts) = 2 + allRecords ts + 1
 abbrev pub InRecords : Type 0
 InRecords = (t pack date name : Bytes) → length (prescribed t pack date name) ≡ 120 * fileRecords (outcomeWith pack date t)
 
--- it is never longer than that
+-- it is never longer than the bound
 abbrev pub AtMost : Type 0
 AtMost = (t pack date name : Bytes) → length (prescribed t pack date name) ≤ enough (length t)
 
--- so, lent as much, refusal 4 never comes
+-- so, lent the bound, refusal 4 never comes
 abbrev pub NeverShort : Type 0
 NeverShort = (t pack date name : Bytes) (n : ℕ) → enough (length t) ≤ n → answer t pack date name n ≢ Refused ShortOutput
 
