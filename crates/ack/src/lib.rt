@@ -1,4 +1,6 @@
 // The acknowledgment file of a transmission, how much room it needs, and the entry points.
+#![tactic(auto)]
+
 ghost use Rattle.std.specs.Prelude.{◌≡◌, ◌+◌, ◌-◌, ◌*◌, ◌/◌, ◌≤◌, min, leb, length};
 ghost use Rattle.paper.specs.Bytes.{bit, laid};
 ghost use Rattle.paper.specs.Pack.{lines_of, blocks_of};

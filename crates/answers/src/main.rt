@@ -1,5 +1,7 @@
 // Everything that `ackfile` and `room` do, one after the other: each four of the arguments are what they are given, and their replies follow
 // a heading.
+#![tactic(auto)]
+
 use libc::STDOUT_FILENO;
 use paper::Ask;
 

@@ -1,4 +1,6 @@
 // The rules of an authentication: which of them a record breaks.
+#![tactic(auto)]
+
 ghost use Rattle.std.specs.Prelude.{◌≡◌, ◌&&◌, cond, [], ◌∷◌, ℕ, ◌/◌, ◌%◌, eqb, length, get_or};
 ghost use Rattle.paper.specs.declared.Layout.TheVariants.{L4868, LAuth};
 ghost use Rattle.paper.specs.Layouts.{field};

@@ -1,4 +1,6 @@
 // The birth dates of a document's first authentication, held against the taxpayer lines: field 0117 of the ACK Key.
+#![tactic(auto)]
+
 ghost use Rattle.std.specs.Prelude.{◌≡◌, drop};
 ghost use Rattle.paper.specs.declared.Layout.TheVariants.{LAuth};
 ghost use Rattle.paper.specs.Layouts.{field};

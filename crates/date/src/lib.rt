@@ -1,4 +1,6 @@
 // Dates of the Gregorian calendar, as YYYYMMDD.
+#![tactic(auto)]
+
 ghost use Rattle.std.specs.Prelude.{◌≡◌, ◌+◌, ◌≤◌, length};
 ghost use Rattle.paper.specs.Bytes.{part, number};
 ghost use Rattle.paper.specs.Fields.{leap_year, last_day, day_of_year, valid_date};

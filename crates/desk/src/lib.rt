@@ -1,4 +1,6 @@
 // The receiver on files: inputs are read, and the reply is written to standard output.
+#![tactic(auto)]
+
 ghost use Rattle.io.specs.Counts.{IsPrefixLen};
 
 use libc::STDOUT_FILENO;

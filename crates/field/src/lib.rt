@@ -1,4 +1,6 @@
 // What a field may hold: names, streets, cities, accounts, zips and times.
+#![tactic(auto)]
+
 ghost use Rattle.std.specs.Prelude.{◌≡◌, ◌&&◌, ◌||◌, eqb, leb, take};
 ghost use Rattle.paper.specs.Bytes.{part, within, is_space, number};
 ghost use Rattle.paper.specs.Fields.{beside, spaced, is_less, name, street, city, account, digits_then, zip, zip_ends00, zeros_then_blanks};

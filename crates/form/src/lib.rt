@@ -1,4 +1,6 @@
 // The rules of the 4868: which of them a form breaks.
+#![tactic(auto)]
+
 ghost use Rattle.std.specs.Prelude.{◌≡◌, not, cond, ◌&&◌, [], ◌∷◌, ◌-◌, ◌%◌, ◌≤◌, eqb, leb, length, get_or};
 ghost use Rattle.paper.specs.declared.Layout.TheVariants.{L4868};
 ghost use Rattle.paper.specs.Bytes.{within, empty, letters};

@@ -1,6 +1,8 @@
 // What a file does not rest on, on real bytes. One transmission with packs that differ only in lines of keys that it does not use: the same
 // file each time; and with a pack that differs in the line of a used key: another file. Then a document in place of another with the same
 // sequence, control and primary number, accepted or not as before: only its own record set differs.
+#![tactic(auto)]
+
 ghost use Rattle.std.specs.Prelude.{◌≡◌};
 ghost use Rattle.hidden.specs.Sets.{set_length, first_set, after_set};
 

@@ -1,4 +1,6 @@
 // One document's judgment: its letter, its numbers, its findings, its facts and field 0117; and what it leaves for the later ones to see.
+#![tactic(auto)]
+
 ghost use Rattle.std.specs.Prelude.{◌≡◌, true, false, not, ◌&&◌, ◌||◌, [], map, ◌+◌, ◌-◌, ◌≤◌, min, eqb, length, drop, take};
 ghost use Rattle.paper.specs.declared.Kind.TheVariants.{Form};
 ghost use Rattle.paper.specs.declared.Layout.TheVariants.{L4868};

@@ -1,4 +1,6 @@
 // The kinds of characters: one table for all 256 byte values, and the tests that read it.
+#![tactic(auto)]
+
 mod entries;
 
 ghost use Rattle.std.specs.Prelude.{◌≡◌, not, ◌&&◌, ◌≤◌, length};

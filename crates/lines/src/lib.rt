@@ -1,4 +1,6 @@
 // The lines of a block of the reference pack: what a line of each kind is, and that their keys ascend.
+#![tactic(auto)]
+
 ghost use Rattle.std.specs.Prelude.{◌≡◌, cond, ◌*◌, length};
 ghost use Rattle.paper.specs.Pack.{width_of, yes_no, taxpayer_line, bank_line, state_line, rows, good_body};
 ghost use Rattle.kinds.specs.Kinds.{table};

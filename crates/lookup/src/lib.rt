@@ -1,4 +1,6 @@
 // The lines of a key in a block whose lines ascend, by halves.
+#![tactic(auto)]
+
 ghost use Rattle.std.specs.Prelude.{◌≡◌, ◌+◌, ◌*◌, ◌≤◌, length, drop};
 ghost use Rattle.paper.specs.Bytes.{any, before};
 ghost use Rattle.paper.specs.Pack.{rows, lines_in};

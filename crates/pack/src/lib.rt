@@ -1,4 +1,6 @@
 // The reference pack: whether it is well formed, and where its five blocks of lines stand.
+#![tactic(auto)]
+
 ghost use Rattle.std.specs.Prelude.{◌≡◌, ◌≤◌, ◌<◌, length, get_or};
 ghost use Rattle.paper.specs.Pack.{size_said, kind_said, good_block, good_blocks};
 ghost use Rattle.pack.specs.Shape.{place_at, lines_at, shape_of};

@@ -1,4 +1,6 @@
 // The rules of a payment: which of them a record breaks.
+#![tactic(auto)]
+
 ghost use Rattle.std.specs.Prelude.{◌≡◌, cond, ◌&&◌, [], ◌∷◌, eqb, length, get_or};
 ghost use Rattle.paper.specs.declared.Layout.TheVariants.{L4868, LPayment};
 ghost use Rattle.paper.specs.Bytes.{digits};

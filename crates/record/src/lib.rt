@@ -1,4 +1,6 @@
 // The records of the acknowledgment file, written into an output: 120 blanks, over which texts are laid by the layout tables.
+#![tactic(auto)]
+
 ghost use Rattle.std.specs.Prelude.{◌≡◌, [], ◌∷◌, ◌+◌, ◌-◌, ◌≤◌, leb, length};
 ghost use Rattle.paper.specs.Bytes.{part, written, laid};
 ghost use Rattle.paper.specs.Layouts.{entry};

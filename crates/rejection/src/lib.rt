@@ -1,4 +1,6 @@
 // The file of a whole rejection: one Key with T, and an Error record a code.
+#![tactic(auto)]
+
 ghost use Rattle.std.specs.Prelude.{◌≡◌, cond, ◌++◌, ◌+◌, ◌*◌, ◌/◌, ◌%◌, ◌≤◌, eqb, length};
 ghost use Rattle.paper.specs.Bytes.{written, zeros, blanks, laid};
 ghost use Rattle.paper.specs.File.{error_record, code_list, whole_errors, rejection};

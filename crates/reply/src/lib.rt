@@ -1,4 +1,6 @@
 // What a program writes for a transmission: the acknowledgment file, or how much room it needs; or "refused ", the number and a line end.
+#![tactic(auto)]
+
 ghost use Rattle.std.specs.Prelude.{◌≡◌, [], ◌∷◌, ◌++◌, ◌≤◌, length};
 ghost use Rattle.paper.specs.Bytes.{bytes, written, plain, laid};
 ghost use Rattle.paper.specs.Answer.{prescribed, answer, shown};

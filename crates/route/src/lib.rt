@@ -1,4 +1,6 @@
 // What becomes of a transmission: it is refused, rejected whole, or its documents are judged.
+#![tactic(auto)]
+
 ghost use Rattle.std.specs.Prelude.{◌≡◌, ◌≤◌, length};
 ghost use Rattle.paper.specs.Answer.{file_name};
 ghost use Rattle.route.specs.Way.{by_marks, by_digits, route_of};

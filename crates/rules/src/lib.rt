@@ -1,5 +1,7 @@
 // What a record after a document's first breaks: a set, with a bit for a rule in the order of its kind's table, the first rule the lowest
 // bit; and the text of a rule by its place in the table.
+#![tactic(auto)]
+
 ghost use Rattle.std.specs.Prelude.{◌≡◌, get_or};
 ghost use Rattle.paper.specs.Conditions.{unknown_rules, rules_of};
 ghost use Rattle.text.specs.Words.{little};

@@ -1,4 +1,6 @@
 // A document's record set, written at the front of an output.
+#![tactic(auto)]
+
 ghost use Rattle.std.specs.Prelude.{◌≡◌, cond, map, ◌+◌, ◌-◌, ◌*◌, ◌≤◌, min, leb, length, take};
 ghost use Rattle.paper.specs.Bytes.{laid};
 ghost use Rattle.paper.specs.Conditions.{rules_of};

@@ -1,4 +1,6 @@
 // The rules of a summary: which of them a record breaks.
+#![tactic(auto)]
+
 ghost use Rattle.std.specs.Prelude.{◌≡◌, not, ◌&&◌, cond, [], ◌∷◌, ℕ, ◌/◌, ◌%◌, eqb, length, get_or};
 ghost use Rattle.paper.specs.declared.Layout.TheVariants.{L4868, LSummary};
 ghost use Rattle.paper.specs.Bytes.{present, digits};

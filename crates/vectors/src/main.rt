@@ -1,4 +1,6 @@
 // Acknowledges the tried transmissions in data/ and compares each reply with the right one, byte for byte.
+#![tactic(auto)]
+
 ghost use Rattle.std.specs.Prelude.{◌≡◌, ◌++◌, replicate};
 ghost use Rattle.io.specs.Counts.{IsPrefixLen};
 ghost use Rattle.paper.specs.Bytes.{bytes, written, laid};

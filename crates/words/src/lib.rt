@@ -1,5 +1,7 @@
 // The words of document 01's conditions, over a field: most say whether it is at fault. Whether a field is digits is for the caller to
 // tell, who has the table of kinds. A rule in a set.
+#![tactic(auto)]
+
 ghost use Rattle.std.specs.Prelude.{◌≡◌, not, ◌&&◌, ◌||◌, ◌≤◌, length, take};
 ghost use Rattle.paper.specs.Bytes.{bytes, bit, same, before, part, present, all_zeros, all_nines};
 ghost use Rattle.paper.specs.Conditions.{control_in, not_x, one_of, wrong_page, wrong_and, late, is_foreign, last_pay_day};
