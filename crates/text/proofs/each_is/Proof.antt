@@ -9,10 +9,10 @@ use Rattle.paper.proofs.Laws.{all-loop}
 use Rattle.text.proofs.each_is.Statement.{statement}
 use Rattle.text.proofs.each_is.Tie as tie
 
-abbrev invariant-loop : tie.invariant-loop
+abbrev invariant-loop : tie.invariant-loop-i
 invariant-loop s b all₀ i₀ all i = (i ≤ length s) × (every (λ x. eqb x b) s ≡ (all && every (λ x. eqb x b) (drop i s)))
 
-abbrev decreases-loop : tie.decreases-loop
+abbrev decreases-loop : tie.decreases-loop-i
 decreases-loop s b all₀ i₀ all i = length s - i
 
 pub each_is_spec : {M : Type 1} → statement M

@@ -7,10 +7,10 @@ use borrow.Author.Rules.{rules}
 use Rattle.text.proofs.lay.Statement.{statement}
 use Rattle.text.proofs.lay.Tie as tie
 
-abbrev invariant-loop : tie.invariant-loop
+abbrev invariant-loop : tie.invariant-loop-i
 invariant-loop out₀ at text n i₀ out i = (n ≡ min (length text) (length out - at)) × (length out ≡ length out₀) × (laid out (at + i) (drop i text) ≡ laid out₀ at text)
 
-abbrev decreases-loop : tie.decreases-loop
+abbrev decreases-loop : tie.decreases-loop-i
 decreases-loop out₀ at text n i₀ out i = n - i
 
 pub lay_spec : {M : Type 1} → statement M
@@ -30,9 +30,9 @@ lay_spec =
     (λ c.
     let l = c.before.before in
     let a = l.before.before.before.before.before.args in
-    (simp length-set l.loop.invariant.0, simp length-set l.loop.invariant.1, lay_again l.loop.out a.text.now _ a.at l.loop.i _ l.loop.invariant.0 l.loop.invariant.2 c.before.loop-test.true))
+    (simp length-set l.loop-i.invariant.0, simp length-set l.loop-i.invariant.1, lay_again l.loop-i.out a.text.now _ a.at l.loop-i.i _ l.loop-i.invariant.0 l.loop-i.invariant.2 c.before.loop-i-test.true))
     (λ c. search rules)
     (λ c.
     let l = c.before in
     let a = l.before.before.before.before.before.args in
-    lay_end l.loop.out a.text.now _ a.at l.loop.i _ l.loop.invariant.0 l.loop.invariant.2 c.loop-test.false))
+    lay_end l.loop-i.out a.text.now _ a.at l.loop-i.i _ l.loop-i.invariant.0 l.loop-i.invariant.2 c.loop-i-test.false))
