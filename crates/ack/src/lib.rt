@@ -18,14 +18,14 @@ use paper::{Answer, Codes, Layout, Letter, Refusal};
 use route::Route;
 
 // Where the next document starts, and what it sees of the earlier ones.
-#[derive(Drop)]
+#[derive(Clone, Copy)]
 struct Stand {
     at: usize,
     past: Past,
 }
 
 // Where the record sets end, and how many documents are accepted.
-#[derive(Drop)]
+#[derive(Clone, Copy)]
 struct Done {
     to: usize,
     accepted: usize,

@@ -16,7 +16,7 @@ use paper::{Facts, Layout};
 
 // What a document asks of its authentication. The codes that a blank field has: 0670 (s) and 0681 (o) in a field of the taxpayer, 0671
 // (spouse_s) and 0682 (spouse_o) in one of the spouse, 0697 and an I in 0075 (p); and an E in 0075 and the prior income (select).
-#[derive(Drop)]
+#[derive(Clone, Copy)]
 struct Asked {
     s: bool,
     spouse_s: bool,

@@ -20,7 +20,7 @@ use kinds::{DIGIT, LETTER, all_of, present_but_not};
 use paper::{Facts, Identity, Layout};
 
 // What the table of kinds says of a form's fields: its numbers, whether 0060 is letters, and whether 0100 is digits.
-#[derive(Drop)]
+#[derive(Clone, Copy)]
 struct Told {
     identity: Identity,
     letters60: bool,
@@ -28,7 +28,7 @@ struct Told {
 }
 
 // The set of the rules that a form breaks, and its numbers.
-#[derive(Drop)]
+#[derive(Clone, Copy)]
 pub struct Reading {
     pub set: u64,
     pub identity: Identity,

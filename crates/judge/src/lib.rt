@@ -21,7 +21,7 @@ use rules::Before;
 use walk::Extent;
 
 // What the earlier documents leave: the nearest 0007 and 0008 that are digits, 0 for none, else the number and 1; and how many got A.
-#[derive(Drop)]
+#[derive(Clone, Copy)]
 pub struct Past {
     pub dsn: u64,
     pub dcn: u64,
@@ -29,14 +29,14 @@ pub struct Past {
 }
 
 // What is said of a document, and what the later ones see after it.
-#[derive(Drop)]
+#[derive(Clone, Copy)]
 pub struct Judged {
     pub judgment: Judgment,
     pub past: Past,
 }
 
 // The findings of a 4868 document, the numbers of its form, and field 0117.
-#[derive(Drop)]
+#[derive(Clone, Copy)]
 struct Formed {
     found: Findings,
     identity: Identity,

@@ -9,14 +9,14 @@ use lines::good_body;
 use text::{byte, piece};
 
 // Where a block's lines start, and how many bytes they are.
-#[derive(Drop)]
+#[derive(Clone, Copy)]
 pub struct Place {
     pub start: usize,
     pub size: usize,
 }
 
 // The places of the blocks of the kinds 1 to 5.
-#[derive(Drop)]
+#[derive(Clone, Copy)]
 pub struct Places {
     pub one: Place,
     pub two: Place,
@@ -25,7 +25,7 @@ pub struct Places {
     pub five: Place,
 }
 
-#[derive(Drop)]
+#[derive(Clone, Copy)]
 pub enum Shape {
     Good(Places),
     Bad,

@@ -10,7 +10,7 @@ ghost use Rattle.record.specs.Parts.{started, ended, counted, error_model, error
 use paper::{Layout, Letter, Verdict};
 
 // What a Key says of its document: the verdict, field 0065, the number of Error records and field 0117.
-#[derive(Drop)]
+#[derive(Clone, Copy)]
 pub struct Marks {
     pub verdict: Verdict,
     pub pin: u8,

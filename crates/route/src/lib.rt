@@ -11,7 +11,7 @@ use paper::{Codes, Layout, Refusal};
 use walk::Outer;
 
 // Refused; rejected whole with these codes; or so many documents are judged, by the pack whose blocks stand at these places.
-#[derive(Drop)]
+#[derive(Clone, Copy)]
 pub enum Route {
     Refuse(Refusal),
     Reject(Codes),

@@ -38,7 +38,7 @@ pub fn text_at(kind: Kind, i: usize) -> u64
 }
 
 // How many payments and authentications of the document stand before a record.
-#[derive(Drop)]
+#[derive(Clone, Copy)]
 pub struct Before {
     pub pays: usize,
     pub aths: usize,
