@@ -9,10 +9,10 @@ use Rattle.kinds.specs.Kinds.{is_in}
 use Rattle.kinds.proofs.all_of.Statement.{statement}
 use Rattle.kinds.proofs.all_of.Tie as tie
 
-abbrev invariant-loop : tie.invariant-loop
+abbrev invariant-loop : tie.invariant-loop-i
 invariant-loop kinds set s all₀ i₀ all i = (i ≤ length s) × (every (is_in kinds set) s ≡ (all && every (is_in kinds set) (drop i s)))
 
-abbrev decreases-loop : tie.decreases-loop
+abbrev decreases-loop : tie.decreases-loop-i
 decreases-loop kinds set s all₀ i₀ all i = length s - i
 
 pub all_of_spec : {M : Type 1} → statement M

@@ -8,10 +8,10 @@ use Rattle.kinds.proofs.Loops.{count-loop}
 use Rattle.kinds.proofs.count_of.Statement.{statement}
 use Rattle.kinds.proofs.count_of.Tie as tie
 
-abbrev invariant-loop : tie.invariant-loop
+abbrev invariant-loop : tie.invariant-loop-i
 invariant-loop kinds set s n₀ i₀ n i = (i ≤ length s) × (n ≤ i) × (count (is_in kinds set) s ≡ n + count (is_in kinds set) (drop i s))
 
-abbrev decreases-loop : tie.decreases-loop
+abbrev decreases-loop : tie.decreases-loop-i
 decreases-loop kinds set s n₀ i₀ n i = length s - i
 
 pub count_of_spec : {M : Type 1} → statement M

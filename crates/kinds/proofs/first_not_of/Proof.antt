@@ -7,10 +7,10 @@ use Rattle.kinds.proofs.Loops.{first-loop}
 use Rattle.kinds.proofs.first_not_of.Statement.{statement}
 use Rattle.kinds.proofs.first_not_of.Tie as tie
 
-abbrev invariant-loop : tie.invariant-loop
+abbrev invariant-loop : tie.invariant-loop-i
 invariant-loop kinds set s i₀ i = (i ≤ length s) × (first_not (is_in kinds set) s ≡ i + first_not (is_in kinds set) (drop i s))
 
-abbrev decreases-loop : tie.decreases-loop
+abbrev decreases-loop : tie.decreases-loop-i
 decreases-loop kinds set s i₀ i = length s - i
 
 pub first_not_of_spec : {M : Type 1} → statement M

@@ -9,10 +9,10 @@ use Rattle.kinds.specs.Kinds.{is_in}
 use Rattle.kinds.proofs.some_of.Statement.{statement}
 use Rattle.kinds.proofs.some_of.Tie as tie
 
-abbrev invariant-loop : tie.invariant-loop
+abbrev invariant-loop : tie.invariant-loop-i
 invariant-loop kinds set s some₀ i₀ some i = (i ≤ length s) × (any (is_in kinds set) s ≡ (some || any (is_in kinds set) (drop i s)))
 
-abbrev decreases-loop : tie.decreases-loop
+abbrev decreases-loop : tie.decreases-loop-i
 decreases-loop kinds set s some₀ i₀ some i = length s - i
 
 pub some_of_spec : {M : Type 1} → statement M
