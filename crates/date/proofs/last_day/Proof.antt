@@ -10,8 +10,8 @@ last_day_spec =
     tie.close
     (tie.spec
     (λ c κs. search rules)
-    (λ c. rw (← c.before.leap-year.ensures, c.if1.true))
-    (λ c. rw (← c.before.before.leap-year.ensures, c.before.if1.false, eq-eqb _ _ c.if2.true))
+    (λ c. rw (← c.before.leap_year.ensures, c.if-m-leap_year.true))
+    (λ c. rw (← c.before.before.leap_year.ensures, c.before.if-m-leap_year.false, eq-eqb _ _ c.if-m-eq2.true))
     (λ c. search rules)
     (λ c. search rules)
-    (λ c. rw (← c.before.before.leap-year.ensures, c.before.if1.false, ne_eqb _ _ c.if2.false)))
+    (λ c. rw (← c.before.before.leap_year.ensures, c.before.if-m-leap_year.false, ne_eqb _ _ c.if-m-eq2.false)))
