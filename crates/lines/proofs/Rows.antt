@@ -1,7 +1,7 @@
 -- Lines of one width, read from the front by a loop.
 -- Assumes nothing.
 use mathlib.Core.Path.{◌≡◌, refl, sym, ap, ◌∙◌}
-use mathlib.Core.Bool.{Bool, true, false, ◌&&◌, ◌||◌, not, cond, and-true}
+use mathlib.Core.Bool.{Bool, true, false, ◌&&◌, ◌||◌, cond, and-true}
 use mathlib.Core.List.{[], ◌∷◌}
 use Prim.Native.Nat.{ℕ, zero, suc, ◌+◌, ◌-◌, ◌*◌, ◌/◌, ◌%◌, ◌≤◌, ◌<◌}
 use native.Mathlib.Nat.{suc-mul, not-suc-le-zero, div-add-mod'}
@@ -10,7 +10,7 @@ use native.Mathlib.Omega.{arith}
 use lib.Dec.{eqb, ltb}
 use lib.ListN.{length, get_or, take, drop, length-drop}
 use lib.Seq.{drop-drop, take_all, length-take-le}
-use borrow.Author.Tests.{eq-eqb, ne_eqb, not-true, not-false}
+use borrow.Author.Tests.{eq-eqb, ne_eqb}
 use Rattle.paper.specs.Bytes.{Bytes, every, any, digits, part}
 use Rattle.paper.specs.Pack.{width_of, rise_of, yes_no, taxpayer_line, bank_line, state_line, good_line, rows, lines_in, good_body}
 use Rattle.paper.proofs.Laws.{take_next}
@@ -77,11 +77,11 @@ module _ (k w m at x y : ℕ) (s : Bytes) (v r : Bool) (e : v ≡ climbs k x (ro
       ∙ (λ i. ltb x (line i) && climbs k (line i) (rows (m - 1) w (drop (at + w) s)))
       ∙ ap (λ (b : Bool). b && climbs k y (rows (m - 1) w (drop (at + w) s))) (sym t)
 
-  pub climb_again : not r ≡ false → v ≡ climbs k y (rows (m - 1) w (drop (at + w) s))
-  climb_again n = climb_split ∙ ap (λ (b : Bool). b && climbs k y (rows (m - 1) w (drop (at + w) s))) (not-false r n)
+  pub climb_again : r ≡ true → v ≡ climbs k y (rows (m - 1) w (drop (at + w) s))
+  climb_again n = climb_split ∙ ap (λ (b : Bool). b && climbs k y (rows (m - 1) w (drop (at + w) s))) n
 
-  pub climb_no : not r ≡ true → false ≡ v
-  climb_no n = sym (climb_split ∙ ap (λ (b : Bool). b && climbs k y (rows (m - 1) w (drop (at + w) s))) (not-true r n))
+  pub climb_no : r ≡ false → false ≡ v
+  climb_no n = sym (climb_split ∙ ap (λ (b : Bool). b && climbs k y (rows (m - 1) w (drop (at + w) s))) n)
 
 pub climb_yes : (k w m x : ℕ) (s : Bytes) (v : Bool) → v ≡ climbs k x (rows m w s) → m ≤ 0 → true ≡ v
 climb_yes k w m x s v e h = sym (e ∙ ap (climbs k x) (no_rows m w s h))
@@ -110,9 +110,9 @@ pub kind_4 : (k : ℕ) → k ≡ 4 → Kind k 8 8 state_line
 unfolding width_of rise_of good_line
 kind_4 k e = rw e (record { width = refl; rise = refl; line = refl })
 
-pub kind_5 : (k : ℕ) → (((Unit {0} × (k ≡ 1 → ⊥)) × (k ≡ 2 → ⊥)) × (k ≡ 3 → ⊥)) × (k ≡ 4 → ⊥) → Kind k 12 12 digits
+pub kind_5 : (k : ℕ) → (k ≡ 1 → ⊥) → (k ≡ 2 → ⊥) → (k ≡ 3 → ⊥) → (k ≡ 4 → ⊥) → Kind k 12 12 digits
 unfolding width_of rise_of good_line
-kind_5 k ((((_, a), b), c), d) =
+kind_5 k a b c d =
     let h : (l : Bytes) → good_line k l ≡ digits l = λ l. simp (ne_eqb k 1 a, ne_eqb k 2 b, ne_eqb k 4 d) in
     record {
       width = simp (ne_eqb k 1 a, ne_eqb k 2 b, ne_eqb k 3 c, ne_eqb k 4 d);
@@ -162,11 +162,11 @@ module _ (k w : ℕ) (b : Bytes) (e : w ≡ width_of k) where
   body_even r h q = q ∙ simp (← e, eq-eqb (length b % w) 0 h)
 
 -- three tests in a row; r, q and t are the results at the parts
-pub told_1 : (r x y z : Bool) → r ≡ x → not r ≡ true → false ≡ (x && y && z)
-told_1 r x y z e n = ap (λ (b : Bool). b && y && z) (sym (not-true r n) ∙ e)
+pub told_1 : (r x y z : Bool) → r ≡ x → r ≡ false → false ≡ (x && y && z)
+told_1 r x y z e n = ap (λ (b : Bool). b && y && z) (sym n ∙ e)
 
-pub told_2 : (r x q y z : Bool) → r ≡ x → not r ≡ false → q ≡ y → not q ≡ true → false ≡ (x && y && z)
-told_2 r x q y z e n f m = (λ i. (sym (not-false r n) ∙ e) i && (sym (not-true q m) ∙ f) i && z)
+pub told_2 : (r x q y z : Bool) → r ≡ x → r ≡ true → q ≡ y → q ≡ false → false ≡ (x && y && z)
+told_2 r x q y z e n f m = (λ i. (sym n ∙ e) i && (sym m ∙ f) i && z)
 
-pub told_3 : (r x q y t z : Bool) → r ≡ x → not r ≡ false → q ≡ y → not q ≡ false → t ≡ z → t ≡ (x && y && z)
-told_3 r x q y t z e n f m g = g ∙ (λ i. (sym (not-false r n) ∙ e) i && (sym (not-false q m) ∙ f) i && z)
+pub told_3 : (r x q y t z : Bool) → r ≡ x → r ≡ true → q ≡ y → q ≡ true → t ≡ z → t ≡ (x && y && z)
+told_3 r x q y t z e n f m g = g ∙ (λ i. (sym n ∙ e) i && (sym m ∙ f) i && z)

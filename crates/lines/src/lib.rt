@@ -11,6 +11,7 @@ use kinds::{CONTROL, DIGIT, LETTER, all_of};
 use text::{Key, is_before, is_lower, key_of, piece};
 
 // The width of a line, by the block's kind.
+#[tactic(auto, unfolding(paper::specs::Pack::width_of))]
 fn width_of(kind: u8) -> usize
     ensures { result ≡ width_of kind }
 {
@@ -29,6 +30,7 @@ fn is_yes_no(x: u8) -> bool
     (x == b'Y') | (x == b'N')
 }
 
+#[tactic(auto, unfolding(paper::specs::Pack::taxpayer_line))]
 fn taxpayer_line(kinds: &[u8; 256], l: &[u8]) -> bool
     requires { kinds.now ≡ table }
     ensures { result ≡ taxpayer_line l.now }
@@ -49,6 +51,7 @@ fn bank_line(kinds: &[u8; 256], l: &[u8]) -> bool
     all_of(kinds, DIGIT, piece(l, 0, 9)) & is_yes_no(l[9])
 }
 
+#[tactic(auto, unfolding(paper::specs::Pack::state_line))]
 fn state_line(kinds: &[u8; 256], l: &[u8]) -> bool
     requires { kinds.now ≡ table }
     ensures { result ≡ state_line l.now }

@@ -1,13 +1,13 @@
 -- The tests on the blocks of a pack.
 -- Assumes nothing.
 use mathlib.Core.Path.{◌≡◌, refl, sym, ap, ◌∙◌}
-use mathlib.Core.Bool.{Bool, true, false, ◌&&◌, not}
+use mathlib.Core.Bool.{Bool, true, false, ◌&&◌}
 use Prim.Native.Nat.{ℕ, suc, ◌+◌, ◌-◌, ◌≤◌, ◌<◌}
 use native.Mathlib.Omega.{arith}
 use lib.Dec.{leb, eqb}
 use lib.ListN.{length, take, drop, length-drop}
 use lib.Seq.{take_all, drop-drop}
-use borrow.Author.Tests.{eq-eqb, ne_eqb, le-leb, lt-leb, leb-true, not-true, not-false, eqb-true, eqb-false}
+use borrow.Author.Tests.{eq-eqb, ne_eqb, le-leb, lt-leb, leb-true, eqb-true, eqb-false}
 use Rattle.paper.specs.Bytes.{Bytes}
 use Rattle.paper.specs.Pack.{good_body, size_said, kind_said, body, after, good_block, good_blocks}
 use Rattle.paper.proofs.Laws.{both}
@@ -65,22 +65,22 @@ module _ (k at : ℕ) (s : Bytes) (v : Bool) (e : v ≡ good_blocks (6 - k) k (d
         e ∙ ap (λ (n : ℕ). good_blocks n k (drop at s)) one_less
         ∙ ap (λ (b : Bool). b && good_blocks (6 - (k + 1)) (k + 1) (after (drop at s))) (ap (good_block k) (sym (tail-is s at)) ∙ sym q)
 
-    pub blocks_bad : not r ≡ true → false ≡ v
-    blocks_bad t = sym (blocks_split ∙ ap (λ (b : Bool). b && good_blocks (6 - (k + 1)) (k + 1) (after (drop at s))) (not-true r t))
+    pub blocks_bad : r ≡ false → false ≡ v
+    blocks_bad t = sym (blocks_split ∙ ap (λ (b : Bool). b && good_blocks (6 - (k + 1)) (k + 1) (after (drop at s))) t)
 
-    module _ (t : not r ≡ false) (z : ℕ) (f : z ≡ size_said (take (length s - at) (drop at s))) where
+    module _ (t : r ≡ true) (z : ℕ) (f : z ≡ size_said (take (length s - at) (drop at s))) where
       size_is : z ≡ size_said (drop at s)
       size_is = f ∙ ap size_said (tail-is s at)
 
       pub blocks_fit : at ≤ length s → at + (6 + z) ≤ length s
       blocks_fit l =
-          let fits : 6 + size_said (drop at s) ≤ length (drop at s) = block-fits k (drop at s) (ap (good_block k) (sym (tail-is s at)) ∙ sym q ∙ not-false r t) in
+          let fits : 6 + size_said (drop at s) ≤ length (drop at s) = block-fits k (drop at s) (ap (good_block k) (sym (tail-is s at)) ∙ sym q ∙ t) in
           omega (arith, fits, size_is, length-drop at s)
 
       pub blocks_next : v ≡ good_blocks (6 - (k + 1)) (k + 1) (drop (at + (6 + z)) s)
       blocks_next =
           blocks_split
-          ∙ ap (λ (b : Bool). b && good_blocks (6 - (k + 1)) (k + 1) (after (drop at s))) (not-false r t)
+          ∙ ap (λ (b : Bool). b && good_blocks (6 - (k + 1)) (k + 1) (after (drop at s))) t
           ∙ ap (good_blocks (6 - (k + 1)) (k + 1)) (sym (after_is s at z size_is))
 
   pub blocks_end : 6 ≤ k → at ≤ length s → eqb at (length s) ≡ v

@@ -1,14 +1,14 @@
 -- What the places of a pack say of its blocks.
 -- Assumes nothing.
 use mathlib.Core.Path.{◌≡◌, refl, sym, ap, ◌∙◌, subst}
-use mathlib.Core.Bool.{Bool, true, false, ◌&&◌, not, cond}
+use mathlib.Core.Bool.{Bool, true, false, ◌&&◌, cond}
 use Prim.Native.Nat.{ℕ, zero, suc, ◌+◌, ◌-◌, ◌≤◌, ◌<◌}
 use native.Mathlib.Nat.{not-suc-le-zero, le_of_suc-le-suc}
 use native.Mathlib.Omega.{arith}
 use lib.Dec.{leb}
 use lib.ListN.{length, take, drop, length-drop}
 use lib.Seq.{drop-drop}
-use borrow.Author.Tests.{le-leb, lt-leb, not-true, not-false}
+use borrow.Author.Tests.{le-leb, lt-leb}
 use Rattle.paper.specs.Bytes.{Bytes}
 use Rattle.paper.specs.Pack.{size_said, body, after, good_body, good_block, good_blocks, well_formed, skip, block_of, Blocks, blocks_of}
 use Rattle.pack.specs.declared.Place.{Place}
@@ -93,12 +93,12 @@ module _ (s : Bytes) (h : length s ≤ 65536) (r : Bool) (e : r ≡ good_blocks 
   unfolding well_formed
   well-is = ap (λ (b : Bool). b && good_blocks 5 1 s) (le-leb (length s) 65536 h) ∙ sym e
 
-  pub shape_no : not r ≡ true → Bad ≡ shape_of s
+  pub shape_no : r ≡ false → Bad ≡ shape_of s
   unfolding shape_of
-  shape_no t = simp (well-is, not-true r t)
+  shape_no t = simp (well-is, t)
 
-  pub well-told : not r ≡ false → well_formed s ≡ true
-  well-told t = well-is ∙ not-false r t
+  pub well-told : r ≡ true → well_formed s ≡ true
+  well-told t = well-is ∙ t
 
 pub shape_yes : (s : Bytes) → well_formed s ≡ true → (a b c d f : Place) → a ≡ place_of 1 s → b ≡ place_of 2 s → c ≡ place_of 3 s → d ≡ place_of 4 s → f ≡ place_of 5 s
     → Good (record { one = a; two = b; three = c; four = d; five = f }) ≡ shape_of s

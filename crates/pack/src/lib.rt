@@ -38,12 +38,14 @@ fn byte_at(s: &[u8], i: usize) -> usize
 }
 
 // What a block's head says: the bytes of its lines, and its kind.
+#[tactic(auto, unfolding(paper::specs::Pack::size_said))]
 fn size_said(s: &[u8]) -> usize
     ensures { (result ≡ size_said s.now) × (result < 4294967296) }
 {
     byte_at(s, 0) + byte_at(s, 1) * 256 + byte_at(s, 2) * 65536 + byte_at(s, 3) * 16777216
 }
 
+#[tactic(auto, unfolding(paper::specs::Pack::kind_said))]
 fn kind_said(s: &[u8]) -> usize
     ensures { result ≡ kind_said s.now }
 {

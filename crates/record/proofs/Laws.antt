@@ -1,11 +1,11 @@
 -- A record written at a place of an output. Assumes nothing.
 use mathlib.Core.Path.{◌≡◌, refl, sym, ap, ◌∙◌}
-use mathlib.Core.Bool.{Bool, true, false, not, ◌&&◌}
+use mathlib.Core.Bool.{Bool, true, false, ◌&&◌}
 use mathlib.Core.List.{[], ◌∷◌, ◌++◌, append-nil, append_assoc}
 use Prim.{tt}
 use Prim.Native.Nat.{ℕ, suc, ◌+◌, ◌-◌, ◌/◌, ◌%◌, ◌<◌, ◌≤◌}
 use native.Mathlib.Omega.{arith}
-use borrow.Author.Tests.{le-leb, lt-ltb, leb-true, not-true, not-false}
+use borrow.Author.Tests.{le-leb, lt-ltb, leb-true}
 use lib.Dec.{leb, lit≤}
 use lib.ListN.{length, take, drop, get_or, set, length-take, length-drop, take-append-drop}
 use lib.Seq.{sets, sets-eq, length-sets, set-set, set_comm, length-take-le, take_all, take-add, drop-drop}
@@ -21,17 +21,17 @@ use Rattle.text.proofs.Words.{bytes-little, stores, word_fits}
 use Rattle.record.specs.Parts.{error_model, error_by, placed}
 
 -- what the test of the room says where it holds
-pub fits_told : (n room at : ℕ) (f : Bool) → f ≡ leb (at + n) room → not f ≡ false → at + n ≤ room
-fits_told n room at f e h = leb-true (at + n) room (sym e ∙ not-false f h)
+pub fits_told : (n room at : ℕ) (f : Bool) → f ≡ leb (at + n) room → f ≡ true → at + n ≤ room
+fits_told n room at f e h = leb-true (at + n) room (sym e ∙ h)
 
 module _ (out r : Bytes) (at : ℕ) (f : Bool) (e : f ≡ leb (at + 120) (length out)) where
   -- no room
-  pub not-placed : not f ≡ true → out ≡ placed out at r
+  pub not-placed : f ≡ false → out ≡ placed out at r
   unfolding placed
-  not-placed h = rw (sym e ∙ not-true f h)
+  not-placed h = rw (sym e ∙ h)
 
   -- the 120 bytes from the place on made the record
-  pub lent_placed : not f ≡ false → (new : Bytes) → length r ≡ 120 → new ≡ r → take at out ++ (new ++ drop (at + 120 - at) (drop at out)) ≡ placed out at r
+  pub lent_placed : f ≡ true → (new : Bytes) → length r ≡ 120 → new ≡ r → take at out ++ (new ++ drop (at + 120 - at) (drop at out)) ≡ placed out at r
   unfolding placed laid
   lent_placed h new l n =
       let g : at + 120 ≤ length out = fits_told 120 (length out) at f e h in
@@ -56,9 +56,9 @@ pub record Spans (n room at : ℕ) : Type 0 where
   pub most : n ≤ 16
   pub fits : at + n ≤ room
 
-pub spans_told : (n room at : ℕ) (f : Bool) → f ≡ leb (at + n) room → not ((leb 4 n && leb n 16) && f) ≡ false → Spans n room at
+pub spans_told : (n room at : ℕ) (f : Bool) → f ≡ leb (at + n) room → ((leb 4 n && leb n 16) && f) ≡ true → Spans n room at
 spans_told n room at f e h =
-    let p = both (leb 4 n && leb n 16) f (not-false _ h) in
+    let p = both (leb 4 n && leb n 16) f h in
     let q = both (leb 4 n) (leb n 16) p.0 in
     record { least = leb-true 4 n q.0; most = leb-true n 16 q.1; fits = leb-true (at + n) room (sym e ∙ p.1) }
 

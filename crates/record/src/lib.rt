@@ -104,6 +104,7 @@ fn lay_six(r: &mut [u8], l: Layout, number: u32, n: u32)
 }
 
 // An id is a literal, and is laid byte by byte, which the compiler makes whole in each caller.
+#[tactic(auto, unfolding(crate::specs::Parts::started))]
 fn start(r: &mut [u8], l: Layout, id: &[u8])
     requires { length r.old ≡ 120 }
     ensures { r.new ≡ started l id.now }
@@ -114,6 +115,7 @@ fn start(r: &mut [u8], l: Layout, id: &[u8])
     text::lay(r, layout::start_of(l, 0), id)
 }
 
+#[tactic(auto, unfolding(crate::specs::Parts::ended))]
 fn end(r: &mut [u8])
     ensures { r.new ≡ ended r.old }
 {
@@ -139,6 +141,7 @@ fn verdict_byte(v: Verdict) -> u8
     }
 }
 
+#[tactic(auto, unfolding(paper::specs::File::key_record, paper::specs::File::record_of, crate::specs::Parts::started, crate::specs::Parts::ended))]
 fn lay_key(
     r: &mut [u8],
     ssn: &[u8],
@@ -167,6 +170,7 @@ fn lay_key(
     end(r)
 }
 
+#[tactic(auto, unfolding(crate::specs::Parts::error_model, paper::specs::File::record_of, crate::specs::Parts::started, crate::specs::Parts::ended))]
 fn lay_model(r: &mut [u8], ssn: &[u8], id: &[u8], form: &[u8], page: &[u8], occurrence: &[u8])
     requires { length r.old ≡ 120 }
     ensures { r.new ≡ error_model ssn.now id.now form.now page.now occurrence.now }
@@ -205,6 +209,7 @@ fn less(a: u32, b: u32) -> u32
 }
 
 // The counts of the ACK Recap: accepted, rejected and all documents.
+#[tactic(auto, unfolding(crate::specs::Parts::counted))]
 fn lay_counts(r: &mut [u8], accepted: u32, all: u32)
     ensures { r.new ≡ counted r.old accepted all }
 {
@@ -216,6 +221,7 @@ fn lay_counts(r: &mut [u8], accepted: u32, all: u32)
     lay_six(r, Layout::LAckRecap, 120, all)
 }
 
+#[tactic(auto, unfolding(paper::specs::File::recap_record, paper::specs::File::record_of, crate::specs::Parts::started, crate::specs::Parts::ended, crate::specs::Parts::counted))]
 fn lay_recap(r: &mut [u8], recap: &[u8], twelve: &[u8], accepted: u32, all: u32, name: &[u8])
     requires { length r.old ≡ 120 }
     ensures { r.new ≡ recap_record recap.now twelve.now accepted all name.now }

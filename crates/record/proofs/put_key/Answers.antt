@@ -1,0 +1,10 @@
+use borrow.Author.Rules.{rules}
+use Rattle.paper.proofs.RecordSizes.{length-key}
+use Rattle.record.proofs.Laws.{not-placed, lent_placed}
+use Rattle.record.proofs.put_key.Goals as goal
+
+pub returns-then-not-fits : goal.returns-then-not-fits
+returns-then-not-fits c = search not-placed
+
+pub returns : goal.returns
+returns c = search (rules, lent_placed, length-key)
