@@ -4,7 +4,7 @@
 ghost use Rattle.desk.specs.Counts.{IsPrefixLen};
 
 use paper::Ask;
-use std::env::{Env, FillError};
+use std::env::Env;
 use std::fs::Files;
 use std::io::{Read, Write};
 use std::{fs, io, str};
@@ -41,14 +41,13 @@ pub fn read_file<R: Files>(rt: &R, path: &[u8], buf: &mut [u8]) -> usize
     read_full(&mut file, buf)
 }
 
-// Argument i, at the start of buf, or as much of it as buf takes. A missing argument counts as empty.
+// Argument i, at the start of buf. One that is missing or longer than buf counts as empty.
 fn arg<R: Env>(rt: &R, i: usize, buf: &mut [u8]) -> usize
     ensures { IsPrefixLen result buf.new }
 {
     match rt.arg(i, buf) {
         Ok(n) => n,
-        Err(FillError::NotPresent) => 0,
-        Err(FillError::TooLong) => buf.len(),
+        Err(_) => 0,
     }
 }
 
