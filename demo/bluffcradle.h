@@ -1,4 +1,4 @@
-// The receiver for programs in C: what `rt staticlib ack` exports.
+// The receiver for programs in C: what `tools/build ack_c` makes, target/staticlib/liback.a.
 //
 // Each slice is a pointer, which is not null, and a length. The answer is the refusal's number, 0 for none, times 2 to the 32nd, plus the
 // length of the acknowledgment file, 0 for a refusal. The output overlaps no other slice.
