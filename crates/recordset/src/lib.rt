@@ -13,6 +13,7 @@ ghost use Rattle.recordset.specs.Key.{key_of};
 use paper::{Facts, Identity, Kind, Layout, Letter, Verdict};
 use record::Marks;
 
+#[tactic(auto, unfolding(paper::specs::File::pin_byte))]
 fn pin_byte(known: bool, ath_found: bool, facts: Facts) -> u8
     ensures { result ≡ pin_byte known ath_found facts }
 {
