@@ -307,7 +307,6 @@ fn code_of(a: Answer) -> u64
 }
 
 // The same for programs in other languages: the number times 2 to the 32nd, plus the length.
-#[unsafe(no_mangle)]
 pub extern "C" fn bluffcradle_acknowledge(
     t: &[u8],
     pack: &[u8],
@@ -322,7 +321,6 @@ pub extern "C" fn bluffcradle_acknowledge(
 }
 
 // The need, in the same way.
-#[unsafe(no_mangle)]
 pub extern "C" fn bluffcradle_need(t: &[u8], pack: &[u8], date: &[u8], name: &[u8]) -> u64
     ensures { result ≡ coded (need t.now pack.now date.now name.now) }
 {

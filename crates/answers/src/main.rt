@@ -2,44 +2,43 @@
 // a heading.
 #![tactic(auto)]
 
-use libc::STDOUT_FILENO;
 use paper::Ask;
+use std::io;
 
-fn tried(heading: &[u8], first: u32) {
-    io::write_all(STDOUT_FILENO, heading);
-    io::write_all(STDOUT_FILENO, b":\n");
-    desk::serve(Ask::File, first);
-    io::write_all(STDOUT_FILENO, b"\nroom: ");
-    desk::serve(Ask::Room, first);
+fn tried(rt: &HostRuntime, heading: &str, first: u32) -> io::Result<()> {
+    print!(rt; "{heading}:\n")?;
+    desk::serve(rt, Ask::File, first)?;
+    print!(rt; "\nroom: ")?;
+    desk::serve(rt, Ask::Room, first)
 }
 
-fn answers() {
-    tried(b"a judged file", 1);
-    tried(b"a whole rejection", 5);
-    tried(b"a transmission of 65,537 bytes", 9);
-    tried(b"a pack that is not well formed", 13);
-    tried(b"a date of nine digits", 17);
-    tried(b"a file name of three bytes", 21);
-    tried(b"more than 65,536 bytes to write", 25);
-    tried(b"a pack of 65,537 bytes", 29);
-    tried(b"both of 65,537 bytes", 33);
+fn answers(rt: &HostRuntime) -> io::Result<()> {
+    tried(rt, "a judged file", 1)?;
+    tried(rt, "a whole rejection", 5)?;
+    tried(rt, "a transmission of 65,537 bytes", 9)?;
+    tried(rt, "a pack that is not well formed", 13)?;
+    tried(rt, "a date of nine digits", 17)?;
+    tried(rt, "a file name of three bytes", 21)?;
+    tried(rt, "more than 65,536 bytes to write", 25)?;
+    tried(rt, "a pack of 65,537 bytes", 29)?;
+    tried(rt, "both of 65,537 bytes", 33)
 }
 
-fn unread() {
-    tried(b"no file where the transmission should be", 37);
-    tried(b"a folder where the transmission should be", 41);
-    tried(b"no file where the pack should be", 45);
-    tried(b"a folder where the pack should be", 49);
+fn unread(rt: &HostRuntime) -> io::Result<()> {
+    tried(rt, "no file where the transmission should be", 37)?;
+    tried(rt, "a folder where the transmission should be", 41)?;
+    tried(rt, "no file where the pack should be", 45)?;
+    tried(rt, "a folder where the pack should be", 49)
 }
 
 // The last three arguments are a pack, a transmission and a date.
-fn missing() {
-    tried(b"no file name", 53);
-    tried(b"no argument", 56);
+fn missing(rt: &HostRuntime) -> io::Result<()> {
+    tried(rt, "no file name", 53)?;
+    tried(rt, "no argument", 56)
 }
 
-fn main() {
-    answers();
-    unread();
-    missing();
+fn main(rt: HostRuntime) -> io::Result<()> {
+    answers(&rt)?;
+    unread(&rt)?;
+    missing(&rt)
 }

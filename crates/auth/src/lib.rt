@@ -39,6 +39,7 @@ fn of_form(n: u32, form: &[u8]) -> &[u8]
 }
 
 // 0045: the filler or the form number not blank, a second ATH, or occurrence not 0000001.
+#[tactic(auto, unfolding(paper::specs::Conditions::wrong_auth))]
 fn wrong_auth(own: &[u8], before: usize) -> bool
     ensures { result ≡ wrong_auth own.now before }
 {
@@ -48,6 +49,7 @@ fn wrong_auth(own: &[u8], before: usize) -> bool
         | !text::is_same(field_of(5, own), b"0000001")
 }
 
+#[tactic(auto, unfolding(paper::specs::Conditions::typed))]
 fn is_typed(kind: &[u8], own: &[u8]) -> bool
     ensures { result ≡ typed kind.now own.now }
 {
@@ -221,6 +223,7 @@ pub fn broken(
 }
 
 // The text of the rule at a place of the table, its field and its code: eight bytes, the first one lowest.
+#[tactic(auto, unfolding(paper::specs::Conditions::auth_rules, words::specs::Tables::rule_text))]
 pub fn text_at(i: usize) -> u64
     ensures { result ≡ little (rule_text (get_or auth_rules i 0)) }
 {

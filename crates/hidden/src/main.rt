@@ -6,15 +6,17 @@
 ghost use Rattle.std.specs.Prelude.{◌≡◌};
 ghost use Rattle.hidden.specs.Sets.{set_length, first_set, after_set};
 
-use libc::STDOUT_FILENO;
 use paper::Layout;
+use std::fs::Files;
+use std::io;
+use std::io::Write;
 
 // What comes back for a transmission and a pack of data/.
-fn replied(sent_path: &[u8], pack_path: &[u8], out: &mut [u8]) -> usize {
+fn replied<R: Files>(rt: &R, sent_path: &str, pack_path: &str, out: &mut [u8]) -> usize {
     let mut sent = [0u8; 8192];
-    let t = desk::read_file(sent_path, &mut sent);
+    let t = desk::read_file(rt, sent_path.as_bytes(), &mut sent);
     let mut pack = [0u8; 4096];
-    let p = desk::read_file(pack_path, &mut pack);
+    let p = desk::read_file(rt, pack_path.as_bytes(), &mut pack);
     reply::reply(
         &sent[..t],
         &pack[..p],
@@ -26,29 +28,27 @@ fn replied(sent_path: &[u8], pack_path: &[u8], out: &mut [u8]) -> usize {
 
 // THE PACK
 
-fn compare(path: &[u8], first: &[u8]) {
+fn compare<R: Files + Print>(rt: &R, path: &str, first: &[u8]) -> io::Result<()> {
     let mut out = [0u8; 4096];
-    let n = replied(b"transmission", path, &mut out);
-    io::write_all(STDOUT_FILENO, path);
+    let n = replied(rt, "transmission", path, &mut out);
     if text::is_same(text::piece(&out, 0, n), first) {
-        io::write_all(STDOUT_FILENO, b": the same file\n");
+        println!(rt; "{path}: the same file")
     } else {
-        io::write_all(STDOUT_FILENO, b": another file\n");
+        println!(rt; "{path}: another file")
     }
 }
 
-fn packs() {
+fn packs<R: Files + Print>(rt: &R) -> io::Result<()> {
     let mut out = [0u8; 4096];
-    let n = replied(b"transmission", b"pack", &mut out);
+    let n = replied(rt, "transmission", "pack", &mut out);
     let first = text::piece(&out, 0, n);
-    io::print_decimal(STDOUT_FILENO, n as u64);
-    io::write_all(STDOUT_FILENO, b" bytes come back\n");
-    compare(b"other-taxpayers", first);
-    compare(b"other-banks", first);
-    compare(b"other-filed", first);
-    compare(b"other-states", first);
-    compare(b"other-transmissions", first);
-    compare(b"used-taxpayer", first);
+    println!(rt; "{n} bytes come back")?;
+    compare(rt, "other-taxpayers", first)?;
+    compare(rt, "other-banks", first)?;
+    compare(rt, "other-filed", first)?;
+    compare(rt, "other-states", first)?;
+    compare(rt, "other-transmissions", first)?;
+    compare(rt, "used-taxpayer", first)
 }
 
 // THE OTHER DOCUMENTS
@@ -73,60 +73,54 @@ fn after_set(s: &[u8]) -> &[u8]
     text::piece(s, set_length(s), s.len())
 }
 
-fn tell(what: &[u8], a: &[u8], b: &[u8]) {
-    io::write_all(STDOUT_FILENO, what);
+fn tell<R: Print>(rt: &R, what: &str, a: &[u8], b: &[u8]) -> io::Result<()> {
     if text::is_same(a, b) {
-        io::write_all(STDOUT_FILENO, b": the same bytes\n");
+        println!(rt; "{what}: the same bytes")
     } else {
-        io::write_all(STDOUT_FILENO, b": other bytes\n");
+        println!(rt; "{what}: other bytes")
     }
 }
 
 // The first record set of each, with its letter.
-fn tell_set(what: &[u8], a: &[u8], b: &[u8]) {
-    io::write_all(STDOUT_FILENO, what);
-    io::write_all(STDOUT_FILENO, layout::field_of(Layout::LKey, 50, a));
-    io::write_all(STDOUT_FILENO, b" and ");
-    tell(
-        layout::field_of(Layout::LKey, 50, b),
-        first_set(a),
-        first_set(b),
-    );
+fn tell_set<R: Print>(rt: &R, what: &str, a: &[u8], b: &[u8]) -> io::Result<()> {
+    print!(rt; "{what}")?;
+    io::writer(rt).write_all(layout::field_of(Layout::LKey, 50, a))?;
+    print!(rt; " and ")?;
+    io::writer(rt).write_all(layout::field_of(Layout::LKey, 50, b))?;
+    tell(rt, "", first_set(a), first_set(b))
 }
 
 // Two files of three record sets.
-fn tell_files(a: &[u8], b: &[u8]) {
+fn tell_files<R: Print>(rt: &R, a: &[u8], b: &[u8]) -> io::Result<()> {
     tell(
-        b"TRANA and TRANB",
+        rt,
+        "TRANA and TRANB",
         text::piece(a, 0, 240),
         text::piece(b, 0, 240),
-    );
+    )?;
     let a = text::piece(a, 240, a.len());
     let b = text::piece(b, 240, b.len());
-    tell_set(b"record set 1, ", a, b);
+    tell_set(rt, "record set 1, ", a, b)?;
     let a = after_set(a);
     let b = after_set(b);
-    tell_set(b"record set 2, ", a, b);
+    tell_set(rt, "record set 2, ", a, b)?;
     let a = after_set(a);
     let b = after_set(b);
-    tell_set(b"record set 3, ", a, b);
-    tell(b"Recap", after_set(a), after_set(b));
+    tell_set(rt, "record set 3, ", a, b)?;
+    tell(rt, "Recap", after_set(a), after_set(b))
 }
 
-fn exchange(one: &[u8], other: &[u8]) {
+fn exchange<R: Files + Print>(rt: &R, one: &str, other: &str) -> io::Result<()> {
     let mut out = [0u8; 4096];
-    let n = replied(one, b"pack", &mut out);
+    let n = replied(rt, one, "pack", &mut out);
     let mut out2 = [0u8; 4096];
-    let n2 = replied(other, b"pack", &mut out2);
-    io::write_all(STDOUT_FILENO, one);
-    io::write_all(STDOUT_FILENO, b" and ");
-    io::write_all(STDOUT_FILENO, other);
-    io::write_all(STDOUT_FILENO, b"\n");
-    tell_files(text::piece(&out, 0, n), text::piece(&out2, 0, n2));
+    let n2 = replied(rt, other, "pack", &mut out2);
+    println!(rt; "{one} and {other}")?;
+    tell_files(rt, text::piece(&out, 0, n), text::piece(&out2, 0, n2))
 }
 
-fn main() {
-    packs();
-    exchange(b"second-unpaid", b"second-paid");
-    exchange(b"second-faulty", b"second-faultier");
+fn main(rt: HostRuntime) -> io::Result<()> {
+    packs(&rt)?;
+    exchange(&rt, "second-unpaid", "second-paid")?;
+    exchange(&rt, "second-faulty", "second-faultier")
 }

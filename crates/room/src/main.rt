@@ -3,7 +3,8 @@
 #![tactic(auto)]
 
 use paper::Ask;
+use std::io;
 
-fn main() {
-    desk::serve(Ask::Room, 1);
+fn main(rt: HostRuntime) -> io::Result<()> {
+    desk::serve(&rt, Ask::Room, 1)
 }

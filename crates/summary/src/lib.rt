@@ -27,6 +27,7 @@ fn of_form(n: u32, form: &[u8]) -> &[u8]
 }
 
 // 0045: a filler not blank.
+#[tactic(auto, unfolding(paper::specs::Conditions::summary_fillers))]
 fn fillers(own: &[u8]) -> bool
     ensures { result ≡ summary_fillers own.now }
 {
@@ -34,6 +35,7 @@ fn fillers(own: &[u8]) -> bool
 }
 
 // 0490: present, year not 2004.
+#[tactic(auto, unfolding(paper::specs::Conditions::wrong_year))]
 fn wrong_year(f: &[u8]) -> bool
     ensures { result ≡ wrong_year f.now }
 {
@@ -41,6 +43,7 @@ fn wrong_year(f: &[u8]) -> bool
 }
 
 // Present and not HHMM.
+#[tactic(auto, unfolding(paper::specs::Conditions::not_time), using(crate::proofs::Laws::time_told))]
 fn not_time(not_digits: bool, f: &[u8]) -> bool
     requires { not_digits ≡ (present f.now && not (digits f.now)) }
     ensures { result ≡ not_time f.now }
@@ -94,6 +97,7 @@ fn of_50_to_90(kinds: &[u8; 256], own: &[u8], later: u64) -> u64
 }
 
 // The rules on 0100 to 0250, all in reserve, before later ones.
+#[tactic(auto, unfolding(paper::specs::Conditions::summary_holds, paper::specs::Conditions::pick))]
 fn of_reserves(own: &[u8], later: u64) -> u64
     ensures { result ≡ bits_on (λ (rule : ℕ). summary_holds (rule / 10000) (rule % 10000) [] own.now) (1000014 ∷ 1100014 ∷ 1200014 ∷ 1300014 ∷ 1330014 ∷ 1350014 ∷ 1400014 ∷ 1500014 ∷ 1700014 ∷ 1800014 ∷ 1850014 ∷ 1880014 ∷ 1890014 ∷ 1900014 ∷ 1950014 ∷ 2000014 ∷ 2100014 ∷ 2150014 ∷ 2170014 ∷ 2190014 ∷ 2200014 ∷ 2500014 ∷ []) later }
 {
@@ -152,6 +156,7 @@ fn of_260_to_290(kinds: &[u8; 256], own: &[u8], later: u64) -> u64
 }
 
 // The set of the rules that a summary breaks, where both records have their length.
+#[tactic(auto, unfolding(paper::specs::Conditions::summary_rules, paper::specs::Conditions::summary_holds, paper::specs::Conditions::pick))]
 pub fn broken(form: &[u8], own: &[u8]) -> u64
     ensures { result ≡ cond (eqb (length form.now) 384 && eqb (length own.now) 314) (bits_by (λ (rule : ℕ). summary_holds (rule / 10000) (rule % 10000) form.now own.now) summary_rules) 0 }
 {
@@ -169,6 +174,7 @@ pub fn broken(form: &[u8], own: &[u8]) -> u64
 }
 
 // The text of the rule at a place of the table, its field and its code: eight bytes, the first one lowest.
+#[tactic(auto, unfolding(paper::specs::Conditions::summary_rules, words::specs::Tables::rule_text))]
 pub fn text_at(i: usize) -> u64
     ensures { result ≡ little (rule_text (get_or summary_rules i 0)) }
 {

@@ -2,11 +2,12 @@
 #![tactic(auto)]
 
 ghost use Rattle.std.specs.Prelude.{◌≡◌, ◌++◌, replicate};
-ghost use Rattle.io.specs.Counts.{IsPrefixLen};
 ghost use Rattle.paper.specs.Bytes.{bytes, written, laid};
+ghost use Rattle.desk.specs.Counts.{IsPrefixLen};
 ghost use Rattle.vectors.specs.Paths.{path_of};
 
-use libc::STDOUT_FILENO;
+use std::fs::Files;
+use std::io;
 
 const CASES: usize = 194;
 
@@ -34,51 +35,42 @@ fn path_of(i: usize, part: &[u8]) -> [u8; 16]
 }
 
 // A part of case i, at the start of buf.
-fn read_part(i: usize, part: &[u8], buf: &mut [u8]) -> usize
+fn read_part<R: Files>(rt: &R, i: usize, part: &[u8], buf: &mut [u8]) -> usize
     ensures { IsPrefixLen result buf.new }
 {
     if 12 < part.len() {
         return 0;
     }
     let path = path_of(i, part);
-    desk::read_file(text::piece(&path, 0, 4 + part.len()), buf)
+    desk::read_file(rt, text::piece(&path, 0, 4 + part.len()), buf)
 }
 
-fn is_right(i: usize) -> bool {
+fn is_right<R: Files>(rt: &R, i: usize) -> bool {
     let mut sent = [0u8; 65537];
-    let t = read_part(i, b"transmission", &mut sent);
+    let t = read_part(rt, i, b"transmission", &mut sent);
     let mut pack = [0u8; 65537];
-    let p = read_part(i, b"pack", &mut pack);
+    let p = read_part(rt, i, b"pack", &mut pack);
     let mut date = [0u8; 64];
-    let d = read_part(i, b"date", &mut date);
+    let d = read_part(rt, i, b"date", &mut date);
     let mut name = [0u8; 64];
-    let n = read_part(i, b"name", &mut name);
+    let n = read_part(rt, i, b"name", &mut name);
     let mut right = [0u8; 65537];
-    let r = read_part(i, b"ack", &mut right);
-    let mut out = io::large_buffer();
+    let r = read_part(rt, i, b"ack", &mut right);
+    let mut out = [0u8; 65536];
     let size = reply::reply(&sent[..t], &pack[..p], &date[..d], &name[..n], &mut out);
     text::is_same(text::piece(&out, 0, size), &right[..r])
 }
 
-fn tell(i: usize) {
-    io::write_all(STDOUT_FILENO, b"differs: ");
-    io::print_decimal(STDOUT_FILENO, i as u64);
-    io::write_all(STDOUT_FILENO, b"\n");
-}
-
-fn main() {
+fn main(rt: HostRuntime) -> io::Result<()> {
     let mut agreed: usize = 0;
     let mut i: usize = 0;
     while i < CASES {
-        if is_right(i) {
+        if is_right(&rt, i) {
             agreed += 1;
         } else {
-            tell(i);
+            println!(rt; "differs: {i}")?;
         }
         i += 1;
     }
-    io::print_decimal(STDOUT_FILENO, agreed as u64);
-    io::write_all(STDOUT_FILENO, b" of ");
-    io::print_decimal(STDOUT_FILENO, CASES as u64);
-    io::write_all(STDOUT_FILENO, b" agree\n");
+    println!(rt; "{agreed} of {CASES} agree")
 }

@@ -9,6 +9,7 @@ ghost use Rattle.date.specs.Day.{is_day};
 ghost use Rattle.words.specs.Sets.{bit_on};
 
 // 0010: not X or blank.
+#[tactic(auto, unfolding(paper::specs::Conditions::not_x))]
 pub fn not_x(f: &[u8]) -> bool
     ensures { result ≡ not_x f.now }
 {
@@ -57,6 +58,7 @@ pub fn other_number(is_digits: bool, f: &[u8], ssn: &[u8]) -> bool
 }
 
 // 0044: page not "PG01 ".
+#[tactic(auto, unfolding(paper::specs::Conditions::wrong_page))]
 pub fn wrong_page(f: &[u8]) -> bool
     ensures { result ≡ wrong_page f.now }
 {
@@ -115,6 +117,7 @@ fn is_after(day: &[u8], last: &[u8]) -> bool
 }
 
 // 0310: received after 20040415.
+#[tactic(auto, unfolding(paper::specs::Conditions::late))]
 pub fn late(day: &[u8]) -> bool
     ensures { result ≡ late day.now }
 {

@@ -15,4 +15,4 @@ day_of_year_spec =
     (λ c. search (rules, tests, flow))
     (λ c. search (rules, tests, flow))
     (λ c κs. search rules)
-    (λ c. rw (le-leb _ _ c.before.before.before.if-y-lt1.false, le-leb _ _ c.before.before.if-m-lt1.false, le-leb _ _ c.before.if-m-gt12.false, ← c.last-day.ensures)))
+    (λ c. rw (le-leb _ _ c.before.before.before.if-y-lt1.false, le-leb _ _ c.before.before.if-m-lt1.false, le-leb _ _ c.before.if-m-gt12.false, ← c.last_day.ensures)))

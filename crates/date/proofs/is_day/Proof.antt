@@ -10,7 +10,7 @@ unfolding is_day
 is_day_spec =
     tie.close
     (tie.spec
-    (λ c. rw (ne_eqb _ _ c.if1.true))
+    (λ c. rw (ne_eqb _ _ c.if-s-ne8.true))
     (λ c κs. search rules)
     (λ c. search rules)
     (λ c κs. search rules)
@@ -20,4 +20,4 @@ is_day_spec =
     (λ c κs. search rules)
     (λ c.
     let k = c.before.before.before.before in
-    rw (eq-eqb _ _ k.before.if1.false, c.day-of-year.ensures, c.before.two-digits4.ensures.0, c.before.before.two-digits3.ensures.0, c.before.before.before.two-digits2.ensures.0, k.two_digits.ensures.0, four-number k.before.before.before.args.s.now k.before.if1.false)))
+    rw (eq-eqb _ _ k.before.if-s-ne8.false, c.day_of_year.ensures, c.before.two_digits-4.ensures.0, c.before.before.two_digits-3.ensures.0, c.before.before.before.two_digits-2.ensures.0, k.two_digits.ensures.0, four-number k.before.before.before.args.s.now k.before.if-s-ne8.false)))

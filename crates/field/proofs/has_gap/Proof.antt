@@ -8,10 +8,10 @@ use Rattle.field.proofs.Spaces.{gap-loop}
 use Rattle.field.proofs.has_gap.Statement.{statement}
 use Rattle.field.proofs.has_gap.Tie as tie
 
-abbrev invariant-loop : tie.invariant-loop
+abbrev invariant-loop : tie.invariant-loop-i
 invariant-loop s found₀ i₀ found i = (2 ≤ i) × (i ≤ length s + 2) × (gap s ≡ (found || gap (drop (i - 2) s)))
 
-abbrev decreases-loop : tie.decreases-loop
+abbrev decreases-loop : tie.decreases-loop-i
 decreases-loop s found₀ i₀ found i = length s + 2 - i
 
 pub has_gap_spec : {M : Type 1} → statement M

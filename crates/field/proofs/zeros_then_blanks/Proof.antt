@@ -7,10 +7,10 @@ use Rattle.field.proofs.Laws.{zeros-loop}
 use Rattle.field.proofs.zeros_then_blanks.Statement.{statement}
 use Rattle.field.proofs.zeros_then_blanks.Tie as tie
 
-abbrev invariant-loop : tie.invariant-loop
+abbrev invariant-loop : tie.invariant-loop-i
 invariant-loop s i₀ i = (i ≤ length s) × (zeros_then_blanks s ≡ zeros_then_blanks (drop i s))
 
-abbrev decreases-loop : tie.decreases-loop
+abbrev decreases-loop : tie.decreases-loop-i
 decreases-loop s i₀ i = length s - i
 
 pub zeros_then_blanks_spec : {M : Type 1} → statement M

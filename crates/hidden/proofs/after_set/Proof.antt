@@ -9,4 +9,4 @@ after_set_spec =
     (tie.spec
     (λ c κs. search rules)
     (λ c κs. search rules)
-    (λ c. after-set c.before.before.before.args.s.now _ c.before.set-length.result c.before.set-length.ensures c.piece.ensures))
+    (λ c. after-set c.before.before.before.args.s.now _ c.before.set_length.result c.before.set_length.ensures c.piece.ensures))

@@ -12,4 +12,4 @@ set_length_spec =
     (λ c. search rules)
     (λ c. search rules)
     (λ c. search rules)
-    (λ c. set-length c.before.before.before.args.s.now _ c.number.result c.before.field_of.ensures c.number.ensures.0))
+    (λ c. set-length c.before.before.before.args.s.now _ c.number.result c.before.field_of-count.ensures c.number.ensures.0))

@@ -18,4 +18,4 @@ path_of_spec =
     let p = c.before.before.before.before in
     let f = p.before.before.before in
     let a = f.before.before.args in
-    path_laid a.i a.part.now f.folder-of.result (replicate 16 0) _ _ f.folder-of.ensures p.lay.ensures c.before.lay2.ensures))
+    path_laid a.i a.part.now f.folder_of-folder.result (replicate 16 0) _ _ f.folder_of-folder.ensures p.lay.ensures c.before.lay-2.ensures))

@@ -20,4 +20,4 @@ name_at_spec =
     (λ c. search rules)
     (λ c. search rules)
     (λ c κs. search rules)
-    (λ c. let a = c.before.before.before.before.args in long-told a.t.now a.at a.size a.«from» _ c.before.before.if1.false c.before.before.before.before.requires.1 c.word2.ensures.0 c.word2.ensures.1))
+    (λ c. let a = c.before.before.before.before.args in long-told a.t.now a.at a.size a.«from» _ c.before.before.if-size-lt43.false c.before.before.before.before.requires.1 c.word-2.ensures.0 c.word-2.ensures.1))

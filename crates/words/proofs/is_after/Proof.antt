@@ -33,4 +33,4 @@ is_after_spec =
     (λ c. search rules)
     (λ c κs. search rules)
     (λ c κs. search rules)
-    (λ c. by-numbers c.before.before.before.before.before.args.last.now c.before.before.before.before.before.args.day.now c.before.before.before.before.before.requires c.before.before.if1.false c.before.rank.ensures.0 c.before.rank.ensures.1 c.rank2.ensures.0 c.rank2.ensures.1))
+    (λ c. by-numbers c.before.before.before.before.before.args.last.now c.before.before.before.before.before.args.day.now c.before.before.before.before.before.requires c.before.before.if-day-ne8.false c.before.rank.ensures.0 c.before.rank.ensures.1 c.rank-2.ensures.0 c.rank-2.ensures.1))
