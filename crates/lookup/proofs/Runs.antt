@@ -1,7 +1,7 @@
 -- The lines of a key that stand in a row, on any bytes.
 -- Assumes nothing.
 use mathlib.Core.Path.{◌≡◌, refl, sym, ap, ◌∙◌, subst}
-use mathlib.Core.Bool.{Bool, true, false, ◌&&◌, not, cond}
+use mathlib.Core.Bool.{Bool, true, false, ◌&&◌, cond}
 use mathlib.Core.List.{List, [], ◌∷◌}
 use Prim.Native.Nat.{ℕ, zero, suc, ◌+◌, ◌-◌, ◌*◌, ◌/◌, ◌≤◌, ◌<◌}
 use native.Mathlib.Nat.{zero-mul, suc-mul, add_comm, le_trans, le_of_suc-le-suc, not-suc-le-zero, div-mul-le_self, mul-le-mul_right, mul-div_cancel, sub-zero, zero-add, suc-add, suc-sub-suc, add-mul, div-zero}
@@ -9,7 +9,7 @@ use native.Mathlib.Omega.{arith}
 use lib.Dec.{ltb, eqb}
 use lib.ListN.{length, take, drop, length-take, length-drop}
 use lib.Seq.{take-take, drop-drop, take-nil}
-use borrow.Author.Tests.{ne_eqb, lt-ltb, le-ltb, ltb-true, ltb-false, not-true, not-false}
+use borrow.Author.Tests.{ne_eqb, lt-ltb, le-ltb, ltb-true, ltb-false}
 use Rattle.paper.specs.Bytes.{Bytes, same, before, part, empty, first_or}
 use Rattle.paper.specs.Pack.{rows, lines_in, keyed}
 use Rattle.text.proofs.Laws.{piece_whole}
@@ -245,15 +245,15 @@ module _ (w m at v : ℕ) (key s : Bytes) (r : Bool) (e : v ≡ at + length (lea
       ∙ ap (λ (b : Bool). at + length (cond b (take w (drop at s) ∷ lead key (rows (m - 1) w (drop (at + w) s))) []) * w)
       (ap (λ (l : Bytes). same l key) (take-take (length key) w (drop at s) k ∙ sym (piece_whole s at (length key))) ∙ sym q)
 
-  pub run_again : not r ≡ false → v ≡ at + w + length (lead key (rows (m - 1) w (drop (at + w) s))) * w
+  pub run_again : r ≡ true → v ≡ at + w + length (lead key (rows (m - 1) w (drop (at + w) s))) * w
   run_again t =
       let more = length (lead key (rows (m - 1) w (drop (at + w) s))) in
-      run-split ∙ ap (λ (b : Bool). at + length (cond b (take w (drop at s) ∷ lead key (rows (m - 1) w (drop (at + w) s))) []) * w) (not-false r t)
+      run-split ∙ ap (λ (b : Bool). at + length (cond b (take w (drop at s) ∷ lead key (rows (m - 1) w (drop (at + w) s))) []) * w) t
       ∙ omega (arith, suc-mul more w)
 
-  pub run-stop : not r ≡ true → at ≡ v
+  pub run-stop : r ≡ false → at ≡ v
   run-stop t =
-      sym (run-split ∙ ap (λ (b : Bool). at + length (cond b (take w (drop at s) ∷ lead key (rows (m - 1) w (drop (at + w) s))) []) * w) (not-true r t)
+      sym (run-split ∙ ap (λ (b : Bool). at + length (cond b (take w (drop at s) ∷ lead key (rows (m - 1) w (drop (at + w) s))) []) * w) t
       ∙ omega (arith, zero-mul w))
 
 pub run-done : (w m at v : ℕ) (key s : Bytes) → v ≡ at + length (lead key (rows m w s)) * w → m ≤ 0 → at ≡ v
@@ -271,13 +271,13 @@ module _ (w : ℕ) (key s : Bytes) (n i : ℕ) (e : n ≡ count_for w key s) (f 
     key-told : same (key_at w (length key) s i) key ≡ r
     key-told = ap (λ (l : Bytes). same l key) (sym (piece_whole s (i * w) (length key))) ∙ sym q
 
-    pub line_miss : not r ≡ true → [] ≡ line_in w key s
+    pub line_miss : r ≡ false → [] ≡ line_in w key s
     unfolding line_in
-    line_miss t = simp (← f, ← e, lt-ltb i n h, key-told, not-true r t)
+    line_miss t = simp (← f, ← e, lt-ltb i n h, key-told, t)
 
-    pub line_hit : not r ≡ false → take (i * w + w - i * w) (drop (i * w) s) ≡ line_in w key s
+    pub line_hit : r ≡ true → take (i * w + w - i * w) (drop (i * w) s) ≡ line_in w key s
     unfolding line_in
-    line_hit t = piece_whole s (i * w) w ∙ simp (← f, ← e, lt-ltb i n h, key-told, not-false r t)
+    line_hit t = piece_whole s (i * w) w ∙ simp (← f, ← e, lt-ltb i n h, key-told, t)
 
   pub rows_none : n ≤ i → [] ≡ rows_in w key s
   unfolding rows_in

@@ -10,6 +10,7 @@ ghost use Rattle.lookup.specs.Find.{count_for, place_for, lead, line_in, rows_in
 use text::{is_before, is_lower, is_same, key_of, piece};
 
 // Whether a line's key comes before another; keys of nine bytes, which are most, as numbers.
+#[tactic(auto, using(crate::proofs::Nines::nine_before))]
 fn key_before(a: &[u8], b: &[u8]) -> bool
     ensures { result ≡ before a.now b.now }
 {
@@ -106,6 +107,7 @@ pub fn rows_of<'a>(block: &'a [u8], width: usize, key: &[u8]) -> &'a [u8]
 }
 
 // The prefix lies between the low and the high of a state's line.
+#[tactic(auto, unfolding(paper::specs::Conditions::covers))]
 fn covers(prefix: &[u8], l: &[u8]) -> bool
     ensures { result ≡ covers prefix.now l.now }
 {
