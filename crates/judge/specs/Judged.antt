@@ -28,7 +28,7 @@ one_line [] = []
 one_line (x ∷ l) = (x ∷ l) ∷ []
 
 -- the lines of a key that the searches find in the blocks of these kinds
--- tied to the paper by `asked-pack` of judge/Ties
+-- tied to the paper by `asked_pack` of judge/Ties
 unfoldable pub searched : Bytes → Bytes → Bytes → Bytes → Lines
 searched taxpayers banks filed states k key =
     cond (eqb k 1) (one_line (line_in 33 key taxpayers))

@@ -23,11 +23,11 @@ place_of (suc k) s = place_at (past (place_of k s)) s
 unfoldable pub places_of : Bytes → Places
 places_of s = record { one = place_of 1 s; two = place_of 2 s; three = place_of 3 s; four = place_of 4 s; five = place_of 5 s }
 
--- tied to the paper by `shape-good` and `shape-bad` of pack/Laws
+-- tied to the paper by `shape_good` and `shape_bad` of pack/Laws
 unfoldable pub shape_of : Bytes → Shape
 shape_of s = cond (well_formed s) (Good (places_of s)) Bad
 
 -- the bytes at a place
--- tied to the paper by `blocks-there` of pack/Laws
+-- tied to the paper by `blocks_there` of pack/Laws
 abbrev pub lines_at : Place → Bytes → Bytes
 lines_at p s = part p.start p.size s

@@ -28,7 +28,7 @@ counted r accepted all =
     ∷ [])
 
 -- an Error record without its running number and its rule: primary number, ID, type, page, occurrence
--- tied to the paper by `error-said` of record/Laws
+-- tied to the paper by `error_said` of record/Laws
 unfoldable pub error_model : Bytes → Bytes → Bytes → Bytes → Bytes → Bytes
 error_model ssn id type page occurrence =
     record_of LError
@@ -41,7 +41,7 @@ error_model ssn id type page occurrence =
     ∷ [])
 
 -- a model with a running number and eight digits, those of the rule's field and code
--- tied to the paper by `error-said` of record/Laws
+-- tied to the paper by `error_said` of record/Laws
 unfoldable pub error_by : Bytes → ℕ → ℕ → Bytes
 error_by model n text = laid (laid model (entry LError 30).start (written 2 n)) (entry LError 80).start (bytes_of 8 text)
 

@@ -15,7 +15,7 @@ abbrev pub shown_as : ℕ → ℕ → Bytes → Bytes
 shown_as number n f = cond (eqb number 0) (zeros n) f
 
 -- the first record of `set_by`, for so many Error records
--- tied to the paper by `set-parts` of recordset/Laws
+-- tied to the paper by `set_parts` of recordset/Laws
 unfoldable pub key_of : Bytes → Bool → Identity → Bytes → Letter → Facts → ℕ → Bool → ℕ → Bytes
 key_of main known i date l f errors athFound births =
     key_record (shown_as i.ssn 9 (field L4868 90 main)) (shown_as i.dsn 16 (field L4868 7 main)) (Judged l) (pin_byte known athFound f)

@@ -9,7 +9,7 @@ use Rattle.words.specs.Sets.{bits_by}
 use Rattle.rules.specs.declared.Before.{Before}
 
 -- none of a record of another length than its layout's; what only the first record is judged by is left out of the sight
--- tied to the paper by `others-are` of rules/Laws
+-- tied to the paper by `others_are` of rules/Laws
 unfoldable pub others_of : Kind → Bytes → Bytes → Bytes → Bytes → Bytes → Facts → Before → ℕ
 others_of k form own payer spouse bank whole b =
     cond (goes_on k && eqb (length form) 384 && fits k (length own))

@@ -33,12 +33,12 @@ abbrev pub word_laid : Bytes → ℕ → ℕ → Bytes
 word_laid out at w = cond (leb (at + 8) (length out)) (sets out at (bytes_of 8 w)) out
 
 -- the number whose two halves a key is
--- tied to the paper by `before-high` and `pair-ltb` of text/Words
+-- tied to the paper by `before-high` and `pair_ltb` of text/Words
 abbrev pub key_number : Key → ℕ
 key_number k = k.first * 18446744073709551616 + k.last
 
 -- the most that so many bytes write as digits
--- tied to the paper by `most-again` of text/Laws
+-- tied to the paper by `most_again` of text/Laws
 abbrev pub most : ℕ → ℕ
 most zero = 0
 most (suc k) = most k * 10 + 207

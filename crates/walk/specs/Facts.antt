@@ -10,7 +10,7 @@ unfoldable pub pin_after : Facts → Bytes → ℕ
 pin_after f r = cond (eqb f.aths 0 && of_kind Auth r) (pin_type r) f.pin
 
 -- the facts of one record more
--- tied to the paper by `facts-are` of walk/Facts
+-- tied to the paper by `facts_are` of walk/Facts
 unfoldable pub facts_with : Facts → Bytes → Facts
 facts_with f r = record {
   pays = f.pays + bit (of_kind Payment r);

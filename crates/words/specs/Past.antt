@@ -15,7 +15,7 @@ unfoldable pub identity_of : Bytes → Identity
 identity_of form = record { ssn = number_if (field L4868 90 form); dsn = number_if (field L4868 7 form); dcn = number_if (field L4868 8 form) }
 
 -- of a form that is not known
--- tied to the paper by `set-parts` of recordset/Laws
+-- tied to the paper by `set_parts` of recordset/Laws
 abbrev pub no_identity : Identity
 no_identity = record { ssn = 0; dsn = 0; dcn = 0 }
 

@@ -3,6 +3,6 @@ use Rattle.std.specs.Prelude.{ℕ, ◌/◌, ◌%◌, ◌++◌}
 use Rattle.paper.specs.Bytes.{Bytes, written}
 
 -- its field and its code
--- tied to the paper by `error-said` of record/Laws
+-- tied to the paper by `error_said` of record/Laws
 unfoldable pub rule_text : ℕ → Bytes
 rule_text rule = written 4 (rule / 10000) ++ written 4 (rule % 10000)
