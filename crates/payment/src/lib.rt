@@ -28,6 +28,7 @@ fn of_form(n: u32, form: &[u8]) -> &[u8]
 }
 
 // The running number from 0000001, after so many payments; none beyond the third.
+#[tactic(auto, unfolding(paper::specs::Conditions::runs, paper::specs::Conditions::pick))]
 fn is_running(f: &[u8], n: usize) -> bool
     ensures { result ≡ runs f.now n }
 {
@@ -40,12 +41,14 @@ fn is_running(f: &[u8], n: usize) -> bool
 }
 
 // 0045: the filler not blank, or the occurrence not its running number.
+#[tactic(auto, unfolding(paper::specs::Conditions::wrong_payment))]
 fn wrong_payment(own: &[u8], n: usize) -> bool
     ensures { result ≡ wrong_payment own.now n }
 {
     !text::blank(field_of(4, own)) | !is_running(field_of(5, own), n)
 }
 
+#[tactic(auto, unfolding(paper::specs::Conditions::other_spouse))]
 fn other_spouse(f: &[u8], spouse: &[u8]) -> bool
     ensures { result ≡ other_spouse f.now spouse.now }
 {
@@ -53,6 +56,7 @@ fn other_spouse(f: &[u8], spouse: &[u8]) -> bool
 }
 
 // 0396 at 0030: not digits, first two not 01-12 or 21-32, or no Y line.
+#[tactic(auto, unfolding(paper::specs::Conditions::wrong_bank, paper::specs::Fields::routing))]
 fn wrong_bank(is_digits: bool, f: &[u8], bank: &[u8]) -> bool
     requires { is_digits ≡ digits f.now }
     ensures { result ≡ wrong_bank f.now bank.now }
@@ -60,6 +64,7 @@ fn wrong_bank(is_digits: bool, f: &[u8], bank: &[u8]) -> bool
     !(is_digits & field::district(f)) | !text::is_same(text::piece(bank, 9, 1), b"Y")
 }
 
+#[tactic(auto, unfolding(paper::specs::Conditions::tax_type))]
 fn tax_type(f: &[u8]) -> bool
     ensures { result ≡ tax_type f.now }
 {
@@ -67,6 +72,7 @@ fn tax_type(f: &[u8]) -> bool
 }
 
 // 0397: no valid date or after the last day, which is a later one where the form's address indicator is 3.
+#[tactic(auto, using(words::proofs::Told::pay_date_by))]
 fn wrong_date(kinds: &[u8; 256], form: &[u8], own: &[u8]) -> bool
     requires { kinds.now ≡ table }
     ensures { result ≡ wrong_pay_date (foreign form.now) (field LPayment 80 own.now) }
@@ -117,6 +123,7 @@ fn of_money(kinds: &[u8; 256], form: &[u8], own: &[u8], bank: &[u8], later: u64)
 }
 
 // The set of the rules that a payment breaks, after so many payments of the document; bank is the line of 0030.
+#[tactic(auto, unfolding(paper::specs::Conditions::payment_rules, paper::specs::Conditions::payment_holds, paper::specs::Conditions::pick))]
 pub fn broken(form: &[u8], own: &[u8], bank: &[u8], before: usize) -> u64
     ensures { result ≡ cond (eqb (length form.now) 384 && eqb (length own.now) 123) (bits_by (breaks form.now own.now bank.now before) payment_rules) 0 }
 {
@@ -132,6 +139,7 @@ pub fn broken(form: &[u8], own: &[u8], bank: &[u8], before: usize) -> u64
 }
 
 // The text of the rule at a place of the table, its field and its code: eight bytes, the first one lowest.
+#[tactic(auto, unfolding(paper::specs::Conditions::payment_rules, words::specs::Tables::rule_text))]
 pub fn text_at(i: usize) -> u64
     ensures { result ≡ little (rule_text (get_or payment_rules i 0)) }
 {
