@@ -92,11 +92,11 @@ module _ (t pack date name : Bytes) where
       well : well_formed pack ≡ true
       well = (shape_good pack places (sym es ∙ ep)).0
 
-      pub bad_date : not (a && b) ≡ true → Refuse BadDateOrName ≡ route_of t pack date name
+      pub bad_date : (a && b) ≡ false → Refuse BadDateOrName ≡ route_of t pack date name
       unfolding route_of refusal_of
       bad_date q = rw (le-ltb 65536 (length t) h, well, ← ea, ← eb, q)
 
-      pub free : not (a && b) ≡ false → refusal_of t pack date name ≡ none
+      pub free : (a && b) ≡ true → refusal_of t pack date name ≡ none
       unfolding refusal_of
       free q = rw (le-ltb 65536 (length t) h, well, ← ea, ← eb, q)
 

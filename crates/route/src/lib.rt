@@ -45,6 +45,7 @@ fn by_digits(t: &[u8], n: usize, places: Places, sent: &[u8]) -> Route
     by_marks(line.len() != 0, !text::is_same(again, twelve), n, places)
 }
 
+#[tactic(auto, unfolding(paper::specs::Answer::file_name), using(kinds::proofs::Ranges::printable_kind))]
 fn is_file_name(s: &[u8]) -> bool
     ensures { result ≡ file_name s.now }
 {
