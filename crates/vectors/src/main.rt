@@ -61,6 +61,10 @@ fn is_right<R: Files>(rt: &R, i: usize) -> bool {
     text::is_same(text::piece(&out, 0, size), &right[..r])
 }
 
+fn tell<R: Print>(rt: &R, i: usize) -> io::Result<()> {
+    println!(rt; "differs: {i}")
+}
+
 fn main(rt: HostRuntime) -> io::Result<()> {
     let mut agreed: usize = 0;
     let mut i: usize = 0;
@@ -68,7 +72,7 @@ fn main(rt: HostRuntime) -> io::Result<()> {
         if is_right(&rt, i) {
             agreed += 1;
         } else {
-            println!(rt; "differs: {i}")?;
+            tell(&rt, i)?;
         }
         i += 1;
     }
