@@ -51,6 +51,7 @@ fn number_in(kinds: &[u8; 256], f: &[u8]) -> u64
     text::number_of(f) + 1
 }
 
+#[tactic(auto, unfolding(words::specs::Past::identity_of))]
 fn identity_of(kinds: &[u8; 256], form: &[u8]) -> Identity
     requires { kinds.now ≡ table }
     ensures { result ≡ identity_of form.now }
@@ -75,6 +76,7 @@ fn tell(kinds: &[u8; 256], form: &[u8]) -> Told
 }
 
 // 0045: a filler not blank.
+#[tactic(auto, unfolding(paper::specs::Conditions::form_fillers))]
 fn fillers(form: &[u8]) -> bool
     ensures { result ≡ form_fillers form.now }
 {
@@ -91,6 +93,7 @@ fn of_foreign(n: u32) -> bool
 }
 
 // An address field is judged: 0032 to 0036 where the indicator is 3, the others where it is not.
+#[tactic(auto, unfolding(paper::specs::Conditions::addressed, paper::specs::Conditions::pick))]
 fn is_addressed(n: u32, form: &[u8]) -> bool
     ensures { result ≡ addressed n form.now }
 {
@@ -119,12 +122,14 @@ fn wrong_city(judged: bool, f: &[u8]) -> bool
     !field::city(f)
 }
 
+#[tactic(auto, unfolding(paper::specs::Pack::lines_in), using(crate::proofs::Laws::no_rows))]
 fn no_lines(zips: &[u8]) -> bool
     ensures { result ≡ empty (lines_in 8 zips.now) }
 {
     zips.len() / 8 == 0
 }
 
+#[tactic(auto, unfolding(paper::specs::Conditions::wrong_state))]
 fn wrong_state(is_letters: bool, form: &[u8], zips: &[u8]) -> bool
     requires { is_letters ≡ letters (field L4868 60 form.now) }
     ensures { result ≡ wrong_state form.now (lines_in 8 zips.now) }
@@ -135,12 +140,14 @@ fn wrong_state(is_letters: bool, form: &[u8], zips: &[u8]) -> bool
     !is_letters | no_lines(zips)
 }
 
+#[tactic(auto, unfolding(paper::specs::Conditions::bad_zip))]
 fn bad_zip(f: &[u8], zips: &[u8]) -> bool
     ensures { result ≡ bad_zip f.now (lines_in 8 zips.now) }
 {
     !field::zip(f) | !lookup::covers_prefix(zips, text::piece(f, 0, 3)) | field::zip_ends_00(f)
 }
 
+#[tactic(auto, unfolding(paper::specs::Conditions::wrong_zip))]
 fn wrong_zip(form: &[u8], zips: &[u8]) -> bool
     ensures { result ≡ wrong_zip form.now (lines_in 8 zips.now) }
 {
@@ -151,6 +158,7 @@ fn wrong_zip(form: &[u8], zips: &[u8]) -> bool
 }
 
 // 0306: a blank field of the foreign address, or one of the domestic address that is present.
+#[tactic(auto, unfolding(paper::specs::Conditions::wrong_foreign))]
 fn wrong_foreign(form: &[u8]) -> bool
     ensures { result ≡ wrong_foreign form.now }
 {
@@ -167,6 +175,7 @@ fn wrong_foreign(form: &[u8]) -> bool
 }
 
 // 0314: 0180 significant, 0114 X, 0100 blank.
+#[tactic(auto, unfolding(paper::specs::Conditions::no_spouse))]
 fn no_spouse(form: &[u8]) -> bool
     ensures { result ≡ no_spouse form.now }
 {
@@ -335,6 +344,7 @@ pub fn broken(
 }
 
 // The text of the rule at a place of the table, its field and its code: eight bytes, the first one lowest.
+#[tactic(auto, unfolding(paper::specs::Conditions::form_rules, words::specs::Tables::rule_text))]
 pub fn text_at(i: usize) -> u64
     ensures { result ≡ little (rule_text (get_or form_rules i 0)) }
 {

@@ -11,6 +11,7 @@ ghost use Rattle.rules.specs.Sets.{others_of};
 use paper::{Facts, Kind};
 
 // Of an FRM of an unknown form: the text of its one rule.
+#[tactic(auto, unfolding(words::specs::Tables::rule_text))]
 fn unknown_at(i: usize) -> u64
     ensures { result ≡ little (rule_text (get_or unknown_rules i 0)) }
 {
@@ -21,6 +22,7 @@ fn unknown_at(i: usize) -> u64
 }
 
 // The text of the rule at a place of a kind's table, its field and its code: eight bytes, the first one lowest.
+#[tactic(auto, unfolding(words::specs::Tables::rule_text))]
 pub fn text_at(kind: Kind, i: usize) -> u64
     ensures { result ≡ little (rule_text (get_or (rules_of kind) i 0)) }
 {
@@ -46,6 +48,7 @@ pub struct Before {
 
 // The set of the rules that a record of a document after its first breaks: form is the document's first record; payer and spouse are the
 // taxpayer lines of 0090 and 0100, bank the line of a payment's 0030; whole are the facts of the document.
+#[tactic(auto, unfolding(crate::specs::Sets::others_of))]
 pub fn others(
     kind: Kind,
     form: &[u8],
