@@ -21,6 +21,7 @@ fn at_most_96(n: usize) -> usize
 }
 
 // The kind of a number.
+#[tactic(auto, unfolding(crate::specs::Set::kind_at))]
 fn kind_at(number: usize) -> Kind
     ensures { result ≡ kind_at number }
 {
