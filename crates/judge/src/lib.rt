@@ -57,6 +57,7 @@ fn lesser(a: usize, b: usize) -> usize
 
 // FINDINGS
 
+#[tactic(auto, unfolding(crate::specs::Kept::no_findings))]
 fn no_findings() -> Findings
     ensures { result ≡ no_findings }
 {
@@ -177,6 +178,7 @@ fn pass(identity: Identity, letter: Letter, past: Past, row: &mut [u32]) -> Past
 // JUDGING
 
 // The bank line of a payment, or no byte.
+#[tactic(auto, unfolding(crate::specs::Judged::bank_for))]
 fn bank_of<'a>(banks: &'a [u8], kind: Kind, own: &[u8]) -> &'a [u8]
     ensures { result.now ≡ bank_for banks.now kind own.now }
 {
