@@ -14,7 +14,7 @@ use Rattle.paper.specs.Pack.{block, blocks_of}
 use Rattle.paper.specs.Walk.{records}
 use Rattle.paper.specs.Hidden.{outcome_with, set_at, Document, InPlace}
 use Rattle.paper.specs.Notice.{ButBirths, letters_of}
-use Rattle.paper.specs.Samples.{two_pack, before_it, unpaid, paid, after_it, doc_in, day, old, new, OneDocument, exchange, duplicate_pack, other_birth_pack, one-digit}
+use Rattle.paper.specs.Samples.{two_pack, what_precedes, unpaid, paid, what_follows, doc_in, day, old, new, OneDocument, exchange, duplicate_pack, other_birth_pack, one-digit}
 use Rattle.paper.proofs.Laws.{never, same-eq}
 use Rattle.paper.proofs.OtherSets.{others_same}
 use Rattle.paper.proofs.Notice.{same-letters}
@@ -37,17 +37,17 @@ document x d = record {
   follows = d.follows;
 }
 
-in_place : InPlace two_pack day before_it after_it unpaid paid (doc_in unpaid) (doc_in paid)
+in_place : InPlace two_pack day what_precedes what_follows unpaid paid (doc_in unpaid) (doc_in paid)
 in_place = record {
   around = record {
-    first = get_or (records before_it) 0 [];
-    second = get_or (records before_it) 1 [];
-    earlier = drop 2 (records before_it);
-    next = get_or (records after_it) 0 [];
-    later = drop 1 (records after_it);
-    before_it_lem = two-more (records before_it) exchange.two-before;
+    first = get_or (records what_precedes) 0 [];
+    second = get_or (records what_precedes) 1 [];
+    earlier = drop 2 (records what_precedes);
+    next = get_or (records what_follows) 0 [];
+    later = drop 1 (records what_follows);
+    before_it = two-more (records what_precedes) exchange.two-before;
     whole = exchange.whole;
-    after_it_lem = one_more (records after_it) exchange.one-after;
+    after_it = one_more (records what_follows) exchange.one-after;
     fresh = exchange.fresh;
   };
   old = document unpaid exchange.old-document;
@@ -63,7 +63,7 @@ in_place = record {
 
 -- the record sets before and after it are the same bytes
 pub others_unchanged : (n : ℕ) → n ≢ 1 → set_at two_pack day old n ≡ set_at two_pack day new n
-others_unchanged n ne = others_same two_pack day before_it after_it unpaid paid (doc_in unpaid) (doc_in paid) in_place n (λ e. ne (e ∙ exchange.place))
+others_unchanged n ne = others_same two_pack day what_precedes what_follows unpaid paid (doc_in unpaid) (doc_in paid) in_place n (λ e. ne (e ∙ exchange.place))
 
 -- A BIRTH DATE
 
