@@ -19,61 +19,61 @@ use Rattle.paper.proofs.Laws.{never}
 use Rattle.paper.proofs.KindLaws.{kind_fits}
 use Rattle.walk.specs.Heads.{front, left, head_of}
 use Rattle.walk.specs.Parts.{own_in, doc_here, doc_records}
-use Rattle.walk.proofs.Docs.{own-here}
-use Rattle.walk.proofs.Facts.{head-fits, head-left, goes_some, others-here, main-here}
+use Rattle.walk.proofs.Docs.{own_here}
+use Rattle.walk.proofs.Facts.{head_fits, head_left, goes_some, others_here, main_here}
 use Rattle.rules.specs.Sets.{chosen}
-use Rattle.rules.proofs.Laws.{chosen-those, bits_none, few-rules}
+use Rattle.rules.proofs.Laws.{chosen_those, bits_none, few_rules}
 use Rattle.judge.specs.Kept.{Broke, broke_if, triple, total, listed, counted}
 use Rattle.judge.specs.Judged.{set_in, broke_from}
 use Rattle.judge.proofs.Kept.{keeps_first, take_append}
 use Rattle.judge.proofs.Found.{Standing, found_of}
 use Rattle.sets.specs.Set.{found_in, found_from, firsts}
-use Rattle.sets.proofs.Laws.{kind-back, firsts-take}
+use Rattle.sets.proofs.Laws.{kind_back, firsts_take}
 
 -- EACH RECORD STANDS IN THE TRANSMISSION
 
 -- a record that goes on with a document is long
-on-long : (k : Kind) (n : ℕ) → goes_on k ≡ true → fits k n ≡ true → 42 ≤ n
-on-long TranA n g f = absurd (never g)
-on-long TranB n g f = absurd (never g)
-on-long Form n g f = absurd (never g)
-on-long Unknown n g f = absurd (never g)
-on-long Payment n g f = omega (arith, eqb-true n 123 f)
-on-long Auth n g f = omega (arith, eqb-true n 340 f)
-on-long Summary n g f = omega (arith, eqb-true n 314 f)
-on-long Recap n g f = absurd (never g)
-on-long Stray n g f = absurd (never g)
+on_long : (k : Kind) (n : ℕ) → goes_on k ≡ true → fits k n ≡ true → 42 ≤ n
+on_long TranA n g f = absurd (never g)
+on_long TranB n g f = absurd (never g)
+on_long Form n g f = absurd (never g)
+on_long Unknown n g f = absurd (never g)
+on_long Payment n g f = omega (arith, eqb-true n 123 f)
+on_long Auth n g f = omega (arith, eqb-true n 340 f)
+on_long Summary n g f = omega (arith, eqb-true n 314 f)
+on_long Recap n g f = absurd (never g)
+on_long Stray n g f = absurd (never g)
 
 cut : (k : ℕ) (s : Bytes) → take k s ≡ take (length (take k s)) s
 cut zero s = refl
 cut (suc k) [] = refl
 cut (suc k) (x ∷ s) = ap (λ (l : Bytes). x ∷ l) (cut k s)
 
-own-one : (t : Bytes) (at : ℕ) → ((to : ℕ) → at < to → to ≤ length t → Standing t to (own_in (drop to t))) → Standing t at (own_in (drop at t))
+own_one : (t : Bytes) (at : ℕ) → ((to : ℕ) → at < to → to ≤ length t → Standing t to (own_in (drop to t))) → Standing t at (own_in (drop at t))
 unfolding head_of
-own-one t at ih = by (goes_on (kind_of (front (drop at t)))) refl
+own_one t at ih = by (goes_on (kind_of (front (drop at t)))) refl
   where
     by : (b : Bool) → goes_on (kind_of (front (drop at t))) ≡ b → Standing t at (own_in (drop at t))
     by true g =
         let s = drop at t in
         let r = front s in
-        let some = head-fits t at (head_of s) refl (goes_some (kind_of r) g) in
+        let some = head_fits t at (head_of s) refl (goes_some (kind_of r) g) in
         let l : own_in s ≡ r ∷ own_in (drop (at + length r) t) =
-        own-here s ∙ ap (λ (x : Bool). cond x (r ∷ own_in (left s)) []) g ∙ ap (λ (x : Bytes). r ∷ own_in x) (sym (head-left t at (head_of s) refl)) in
+        own_here s ∙ ap (λ (x : Bool). cond x (r ∷ own_in (left s)) []) g ∙ ap (λ (x : Bytes). r ∷ own_in x) (sym (head_left t at (head_of s) refl)) in
         let after : at < at + length r = omega (arith, some.0) in
-        subst (Standing t at) (sym l) (on-long (kind_of r) (length r) g (kind_fits r), cut (count_of s) s, ih (at + length r) after some.1)
-    by false g = subst (Standing t at) (sym (own-here (drop at t) ∙ ap (λ (x : Bool). cond x (front (drop at t) ∷ own_in (left (drop at t))) []) g)) tt
+        subst (Standing t at) (sym l) (on_long (kind_of r) (length r) g (kind_fits r), cut (count_of s) s, ih (at + length r) after some.1)
+    by false g = subst (Standing t at) (sym (own_here (drop at t) ∙ ap (λ (x : Bool). cond x (front (drop at t) ∷ own_in (left (drop at t))) []) g)) tt
 
-own-stands : (t : Bytes) (n at : ℕ) → length t ≤ at + n → Standing t at (own_in (drop at t))
-own-stands t zero at h = own-one t at (λ to a b. absurd (omega arith))
-own-stands t (suc n) at h = own-one t at (λ to a b. own-stands t n to (omega arith))
+own_stands : (t : Bytes) (n at : ℕ) → length t ≤ at + n → Standing t at (own_in (drop at t))
+own_stands t zero at h = own_one t at (λ to a b. absurd (omega arith))
+own_stands t (suc n) at h = own_one t at (λ to a b. own_stands t n to (omega arith))
 
 -- the records of the document at a place
-pub doc-stands : (t : Bytes) (at : ℕ) → opens (kind_of (doc_here (drop at t)).main) ≡ true → 43 ≤ length (doc_here (drop at t)).main → Standing t at (doc_records (drop at t))
-doc-stands t at o h =
+pub doc_stands : (t : Bytes) (at : ℕ) → opens (kind_of (doc_here (drop at t)).main) ≡ true → 43 ≤ length (doc_here (drop at t)).main → Standing t at (doc_records (drop at t))
+doc_stands t at o h =
     let to = at + length (doc_here (drop at t)).main in
     let w : 42 ≤ length (doc_here (drop at t)).main = omega arith in
-    (w, sym (main-here t at o), subst (Standing t to) (sym (others-here t at o)) (own-stands t (length t) to (omega arith)))
+    (w, sym (main_here t at o), subst (Standing t to) (sym (others_here t at o)) (own_stands t (length t) to (omega arith)))
 
 -- EACH ROW HAS A FINDING
 
@@ -85,27 +85,27 @@ full_append : (t : Bytes) (xs ys : List Broke) → Full t xs → Full t ys → F
 full_append t [] ys f g = g
 full_append t (x ∷ xs) ys f g = (f.0, full_append t xs ys f.1 g)
 
-some-long : {A : Type 0} (l : List A) → empty l ≡ false → 1 ≤ length l
-some-long [] e = absurd (never (sym e))
-some-long (x ∷ l) e = omega arith
+some_long : {A : Type 0} (l : List A) → empty l ≡ false → 1 ≤ length l
+some_long [] e = absurd (never (sym e))
+some_long (x ∷ l) e = omega arith
 
-one-full : (t : Bytes) (place : ℕ) (k : Kind) (v : View) → Full t (broke_if place k (set_in k v))
-one-full t place k v = by (eqb (set_in k v) 0) refl
+one_full : (t : Bytes) (place : ℕ) (k : Kind) (v : View) → Full t (broke_if place k (set_in k v))
+one_full t place k v = by (eqb (set_in k v) 0) refl
   where
     by : (b : Bool) → eqb (set_in k v) 0 ≡ b → Full t (cond b [] (record { place = place; kind = k; set = set_in k v } ∷ []))
     by true e = tt
     by false e =
         let rules = chosen (set_in k v) (rules_of k) in
-        let n : 1 ≤ length (those (holds k v) (rules_of k)) = some-long (those (holds k v) (rules_of k)) (sym (bits_none (holds k v) (rules_of k) (few-rules k)) ∙ e) in
-        let m : length rules ≡ length (those (holds k v) (rules_of k)) = ap length (chosen-those (holds k v) (rules_of k) (few-rules k)) in
+        let n : 1 ≤ length (those (holds k v) (rules_of k)) = some_long (those (holds k v) (rules_of k)) (sym (bits_none (holds k v) (rules_of k) (few_rules k)) ∙ e) in
+        let m : length rules ≡ length (those (holds k v) (rules_of k)) = ap length (chosen_those (holds k v) (rules_of k) (few_rules k)) in
         (omega (arith, length-map rules (mark k (drop place t))), tt)
 
-pub all-full : (t : Bytes) (s : Sight) (place pays aths : ℕ) (l : List Item) → Full t (broke_from s place pays aths l)
-all-full t s place pays aths [] = tt
-all-full t s place pays aths (i ∷ l) =
+pub all_full : (t : Bytes) (s : Sight) (place pays aths : ℕ) (l : List Item) → Full t (broke_from s place pays aths l)
+all_full t s place pays aths [] = tt
+all_full t s place pays aths (i ∷ l) =
     let k = kind_of i.bytes in
-    full_append t (broke_if place k (set_in k (view s i.bytes i.bank pays aths))) _ (one-full t place k (view s i.bytes i.bank pays aths))
-    (all-full t s (place + length i.bytes) (pays + bit (is Payment k)) (aths + bit (is Auth k)) l)
+    full_append t (broke_if place k (set_in k (view s i.bytes i.bank pays aths))) _ (one_full t place k (view s i.bytes i.bank pays aths))
+    (all_full t s (place + length i.bytes) (pays + bit (is Payment k)) (aths + bit (is Auth k)) l)
 
 -- so the first n rows have the first n findings
 enough : (t : Bytes) (m n : ℕ) (l : List Broke) → m ≤ n → Full t l → take m (joined (map (found_of t) (take n l))) ≡ take m (joined (map (found_of t) l))
@@ -122,7 +122,7 @@ enough t m (suc n) (x ∷ l) h f =
 
 row_back : (t : Bytes) (b : Broke) → found_in t (triple b) ≡ found_of t b
 unfolding found_in
-row_back t b = ap (λ (k : Kind). map (mark k (drop b.place t)) (chosen b.set (rules_of k))) (kind-back b.kind)
+row_back t b = ap (λ (k : Kind). map (mark k (drop b.place t)) (chosen b.set (rules_of k))) (kind_back b.kind)
 
 all_back : (t : Bytes) (l : List Broke) → found_from t (map triple l) ≡ joined (map (found_of t) l)
 all_back t [] = refl
@@ -140,9 +140,9 @@ take-most n l = by (ltb n (length l)) refl
         let w : length l ≤ n = ltb-false n (length l) h in
         take_all (min n (length l)) l (omega arith) ∙ sym (take_all n l w)
 
-pub listed-long : (row : List (List ℕ)) (l : List Broke) → length (listed row l) ≡ length row
+pub listed_long : (row : List (List ℕ)) (l : List Broke) → length (listed row l) ≡ length row
 unfolding listed
-listed-long row l = length-sets row 0 (map triple (take 96 l))
+listed_long row l = length-sets row 0 (map triple (take 96 l))
 
 -- what is written of a row where these records are listed
 pub rows_back : (t : Bytes) (l : List Broke) (found : List Finding) (row x : List (List ℕ)) (f : Findings) → length row ≡ 96 → x ≡ listed row l → f ≡ counted l
@@ -154,9 +154,9 @@ rows_back t l found row x f w e c full same count =
     let r' : min 96 f.rows ≡ (counted l).rows = omega arith in
     let k' : min 96 f.kept ≡ min 96 (length found) = omega arith in
     let low : min 96 (length found) ≤ 96 = omega arith in
-    let long : (counted l).rows ≤ length x = omega (arith, ap length e, listed-long row l) in
+    let long : (counted l).rows ≤ length x = omega (arith, ap length e, listed_long row l) in
     (λ i. take (k' i) (found_from t (firsts (r' i) x)))
-    ∙ ap (λ (y : List (List ℕ)). take (min 96 (length found)) (found_from t y)) (firsts-take (counted l).rows x long ∙ ap (take (counted l).rows) e ∙ keeps_first row l w)
+    ∙ ap (λ (y : List (List ℕ)). take (min 96 (length found)) (found_from t y)) (firsts_take (counted l).rows x long ∙ ap (take (counted l).rows) e ∙ keeps_first row l w)
     ∙ ap (take (min 96 (length found))) (all_back t (take 96 l))
     ∙ enough t (min 96 (length found)) 96 l low full
     ∙ ap (take (min 96 (length found))) same ∙ take-most 96 found

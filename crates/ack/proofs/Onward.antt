@@ -18,40 +18,40 @@ use Rattle.paper.specs.Pack.{Lines, banks}
 use Rattle.paper.specs.Walk.{records, Doc, docs_of, kind_of, is, opens}
 use Rattle.paper.specs.Judge.{Before, Finding, Item, Turn, turns, asked, after, after_known, seen, attached, if_known, item_of, known, sight_of, finds_from, findings, letter_of, births_of, is_a}
 use Rattle.paper.specs.File.{on_auth, set_by, or_zeros, set_of}
-use Rattle.paper.proofs.Laws.{never, part-take}
-use Rattle.paper.proofs.KindLaws.{kind-length}
-use Rattle.layout.proofs.Laws.{entry-low}
+use Rattle.paper.proofs.Laws.{never, part_take}
+use Rattle.paper.proofs.KindLaws.{kind_length}
+use Rattle.layout.proofs.Laws.{entry_low}
 use Rattle.paper.proofs.Room.{length-set_of}
 use Rattle.words.specs.Past.{number_if, identity_of, no_identity}
 use Rattle.walk.specs.declared.Extent.{Extent}
 use Rattle.walk.specs.Parts.{doc_here, extent_of, Passed}
 use Rattle.walk.proofs.Docs.{passed}
-use Rattle.walk.proofs.Facts.{main-here}
+use Rattle.walk.proofs.Facts.{main_here}
 use Rattle.judge.specs.declared.Past.{Past}
 use Rattle.judge.specs.declared.Judged.{Judged}
 use Rattle.judge.specs.Judged.{broke_from, broke_in, judgment_of, judged_of}
 use Rattle.judge.specs.Seen.{seen_by, next_past, next_row, past_after, row_after}
 use Rattle.judge.specs.Kept.{total, listed, counted}
-use Rattle.judge.proofs.Seen.{form-wide, leaves, next-few}
-use Rattle.judge.proofs.Found.{Standing, found_of, total-found, auth-found, rows-found}
-use Rattle.judge.proofs.Ties.{accepted-long, accepted-digits}
+use Rattle.judge.proofs.Seen.{form_wide, leaves, next_few}
+use Rattle.judge.proofs.Found.{Standing, found_of, total_found, auth_found, rows_found}
+use Rattle.judge.proofs.Ties.{accepted_long, accepted_digits}
 use Rattle.sets.specs.Set.{found_from, firsts, set_as}
-use Rattle.sets.proofs.Laws.{set-said}
-use Rattle.ack.proofs.Back.{Full, doc-stands, all-full, rows_back}
+use Rattle.sets.proofs.Laws.{set_said}
+use Rattle.ack.proofs.Back.{Full, doc_stands, all_full, rows_back}
 use Rattle.ack.specs.Ties.{here, ahead, Going}
 
 -- THE OPENING RECORD'S FIELDS, read in the bytes that it starts
 
-field-take : (n k : ℕ) (s : Bytes) → 384 ≤ n → field L4868 k (take n s) ≡ field L4868 k s
+field_take : (n k : ℕ) (s : Bytes) → 384 ≤ n → field L4868 k (take n s) ≡ field L4868 k s
 unfolding field
-field-take n k s h = part-take n (entry L4868 k).start (entry L4868 k).width s (omega (arith, entry-low L4868 k))
+field_take n k s h = part_take n (entry L4868 k).start (entry L4868 k).width s (omega (arith, entry_low L4868 k))
 
 -- of an unknown form they are not shown
-set-main : (main main' : Bytes) (b : Bool) (date : Bytes) (l : Letter) (f : Facts) (found : List Finding) (ath : Bool) (births : ℕ)
+set_main : (main main' : Bytes) (b : Bool) (date : Bytes) (l : Letter) (f : Facts) (found : List Finding) (ath : Bool) (births : ℕ)
     → (b ≡ true → (k : ℕ) → field L4868 k main ≡ field L4868 k main') → set_by main b date l f found ath births ≡ set_by main' b date l f found ath births
 unfolding set_by or_zeros
-set-main main main' true date l f found ath births e = rw (e refl 90, e refl 7, e refl 8)
-set-main main main' false date l f found ath births e = refl
+set_main main main' true date l f found ath births e = rw (e refl 90, e refl 7, e refl 8)
+set_main main main' false date l f found ath births e = refl
 
 identity_main : (main main' : Bytes) → ((k : ℕ) → field L4868 k main ≡ field L4868 k main') → identity_of main ≡ identity_of main'
 unfolding identity_of
@@ -115,37 +115,37 @@ module _ (L : Lines) (date t : Bytes) (at : ℕ) (p : Past) (row : List ℕ) (g 
       ap (λ (b : Bool). record { bytes = d.main; bank = cond b line [] } ∷ map item (attached d)) (sym (unpaid (kind_of d.main) moved.opened))
 
   stand : Standing t at (d.main ∷ attached d)
-  stand = by (known d) (doc-stands t at moved.opened moved.long)
+  stand = by (known d) (doc_stands t at moved.opened moved.long)
     where
       by : (b : Bool) → Standing t at (d.main ∷ d.others) → Standing t at (d.main ∷ cond b d.others [])
       by true w = w
       by false w = (w.0, w.1, tt)
 
-  found-is : joined (map (found_of t) (broke_in at T)) ≡ findings T
+  found_is : joined (map (found_of t) (broke_in at T)) ≡ findings T
   unfolding broke_in findings
-  found-is =
+  found_is =
       (λ i. joined (map (found_of t) (broke_from (sight_of T) at 0 0 (items_are i))))
-      ∙ rows-found t (sight_of T) item (λ x. refl) at 0 0 (d.main ∷ attached d) stand
+      ∙ rows_found t (sight_of T) item (λ x. refl) at 0 0 (d.main ∷ attached d) stand
       ∙ (λ i. finds_from (sight_of T) 0 0 (sym items_are i))
 
-  count-is : total (broke_in at T) ≡ length (findings T)
+  count_is : total (broke_in at T) ≡ length (findings T)
   unfolding broke_in findings
-  count-is = total-found (sight_of T) at 0 0 T.subject.items
+  count_is = total_found (sight_of T) at 0 0 T.subject.items
 
   counts : j.found ≡ counted (broke_in at T)
   unfolding judgment_of
   counts = ap (λ (x : Judgment). x.found) ej
 
-  kept-is : j.found.kept ≡ length (take 96 (findings T))
+  kept_is : j.found.kept ≡ length (take 96 (findings T))
   unfolding counted
-  kept-is = ap (λ (f : Findings). f.kept) counts ∙ ap (min 96) count-is ∙ sym (length-take 96 (findings T))
+  kept_is = ap (λ (f : Findings). f.kept) counts ∙ ap (min 96) count_is ∙ sym (length-take 96 (findings T))
 
-  ath-is : j.found.ath ≡ any on_auth (findings T)
+  ath_is : j.found.ath ≡ any on_auth (findings T)
   unfolding counted broke_in findings
-  ath-is = ap (λ (f : Findings). f.ath) counts ∙ auth-found (sight_of T) at 0 0 T.subject.items
+  ath_is = ap (λ (f : Findings). f.ath) counts ∙ auth_found (sight_of T) at 0 0 T.subject.items
 
-  pub kept-few : j.found.kept ≤ 96
-  kept-few = omega (arith, kept-is, length-take 96 (findings T))
+  pub kept_few : j.found.kept ≤ 96
+  kept_few = omega (arith, kept_is, length-take 96 (findings T))
 
   -- THE RECORD SET
 
@@ -161,23 +161,23 @@ module _ (L : Lines) (date t : Bytes) (at : ℕ) (p : Past) (row : List ℕ) (g 
   unfolding judgment_of
   births_are = ap (λ (x : Judgment). x.births) ej
 
-  form-size : known d ≡ true → length d.main ≡ 384
-  form-size h = kind-length Form 384 d.main refl h
+  form_size : known d ≡ true → length d.main ≡ 384
+  form_size h = kind_length Form 384 d.main refl h
 
   own : j.identity ≡ cond (known d) (identity_of d.main) no_identity
   unfolding judgment_of
   own = ap (λ (x : Judgment). x.identity) ej
 
-  same-fields : j.known ≡ true → (k : ℕ) → field L4868 k (take (at + size - at) s) ≡ field L4868 k d.main
+  same_fields : j.known ≡ true → (k : ℕ) → field L4868 k (take (at + size - at) s) ≡ field L4868 k d.main
   unfolding extent_of
-  same-fields h k =
-      let n : length d.main ≡ 384 = form-size (sym known_is ∙ h) in
+  same_fields h k =
+      let n : length d.main ≡ 384 = form_size (sym known_is ∙ h) in
       let long : 384 ≤ at + size - at = omega (arith, sized) in
-      field-take (at + size - at) k s long ∙ sym (field-take 384 k s (omega arith)) ∙ ap (λ (m : ℕ). field L4868 k (take m s)) (sym n) ∙ ap (field L4868 k) (main-here t at moved.opened)
+      field_take (at + size - at) k s long ∙ sym (field_take 384 k s (omega arith)) ∙ ap (λ (m : ℕ). field L4868 k (take m s)) (sym n) ∙ ap (field L4868 k) (main_here t at moved.opened)
 
   -- the numbers are those of the bytes that it starts
-  own-here : j.identity ≡ cond j.known (identity_of (take (at + size - at) s)) no_identity
-  own-here = own ∙ ap (λ (b : Bool). cond b (identity_of d.main) no_identity) (sym known_is) ∙ by j.known same-fields
+  own_here : j.identity ≡ cond j.known (identity_of (take (at + size - at) s)) no_identity
+  own_here = own ∙ ap (λ (b : Bool). cond b (identity_of d.main) no_identity) (sym known_is) ∙ by j.known same_fields
     where
       by : (b : Bool) → (b ≡ true → (k : ℕ) → field L4868 k (take (at + size - at) s) ≡ field L4868 k d.main) → cond b (identity_of d.main) no_identity ≡ cond b (identity_of (take (at + size - at) s)) no_identity
       by true e = sym (identity_main (take (at + size - at) s) d.main (e refl))
@@ -185,26 +185,26 @@ module _ (L : Lines) (date t : Bytes) (at : ℕ) (p : Past) (row : List ℕ) (g 
 
   full : Full t (broke_in at T)
   unfolding broke_in
-  full = all-full t (sight_of T) at 0 0 T.subject.items
+  full = all_full t (sight_of T) at 0 0 T.subject.items
 
   -- of the list, as the call left it
   pub set_here : (list x : List (List ℕ)) → length list ≡ 96 → x ≡ listed list (broke_in at T) → set_as (take (at + size - at) s) t date j x ≡ set_of T
   unfolding set_of
   set_here list x w e =
       let found : take (min 96 j.found.kept) (found_from t (firsts (min 96 j.found.rows) x)) ≡ take 96 (findings T) =
-      rows_back t (broke_in at T) (findings T) list x j.found w e counts full found-is count-is in
-      let few : length (take 96 (findings T)) ≡ min 96 j.found.kept = omega (arith, kept-is, length-take 96 (findings T)) in
-      set-said (take (at + size - at) s) t date j x (take 96 (findings T)) own-here found few
-      ∙ set-main (take (at + size - at) s) d.main j.known date j.letter j.facts (take 96 (findings T)) j.found.ath j.births same-fields
-      ∙ (λ i. set_by d.main (known_is i) date (said i) (facts_are i) (take 96 (findings T)) (ath-is i) (births_are i))
+      rows_back t (broke_in at T) (findings T) list x j.found w e counts full found_is count_is in
+      let few : length (take 96 (findings T)) ≡ min 96 j.found.kept = omega (arith, kept_is, length-take 96 (findings T)) in
+      set_said (take (at + size - at) s) t date j x (take 96 (findings T)) own_here found few
+      ∙ set_main (take (at + size - at) s) d.main j.known date j.letter j.facts (take 96 (findings T)) j.found.ath j.births same_fields
+      ∙ (λ i. set_by d.main (known_is i) date (said i) (facts_are i) (take 96 (findings T)) (ath_is i) (births_are i))
 
-  pub set-size : length (set_of T) ≡ 120 + 120 * j.found.kept
-  set-size = omega (arith, length-set_of T, kept-is, length-take 96 (findings T))
+  pub set_size : length (set_of T) ≡ 120 + 120 * j.found.kept
+  set_size = omega (arith, length-set_of T, kept_is, length-take 96 (findings T))
 
   -- WHAT IT LEAVES
 
   digits_90 : is_a (letter_of T) ≡ true → digits (field L4868 90 d.main) ≡ true
-  digits_90 h = accepted-digits date (seen_by p row) L s moved.opened h
+  digits_90 h = accepted_digits date (seen_by p row) L s moved.opened h
 
   room : p.n < length row
   room = omega (arith, g.space, g.short, g.whole, moved.stands.within, moved.some)
@@ -214,14 +214,14 @@ module _ (L : Lines) (date t : Bytes) (at : ℕ) (p : Past) (row : List ℕ) (g 
     where
       by : (b : Bool) → known d ≡ b
           → seen_by (cond b (next_past (identity_of d.main) (letter_of T) p row) p) (cond b (next_row (identity_of d.main) (letter_of T) p row) row) ≡ cond b (after_known (seen d) (is_a (letter_of T)) (seen_by p row)) (seen_by p row)
-      by true e = let w = form-wide d.main (form-size e) in leaves d.main (letter_of T) p row room w.0 w.1 w.2 digits_90
+      by true e = let w = form_wide d.main (form_size e) in leaves d.main (letter_of T) p row room w.0 w.1 w.2 digits_90
       by false e = refl
 
   few : ((past_after T p row).n ≤ p.n + cond (is_a (letter_of T)) 1 0) × (length (row_after T p row) ≡ length row)
   few = by (known d)
     where
       by : (b : Bool) → ((cond b (next_past (identity_of d.main) (letter_of T) p row) p).n ≤ p.n + cond (is_a (letter_of T)) 1 0) × (length (cond b (next_row (identity_of d.main) (letter_of T) p row) row) ≡ length row)
-      by true = next-few (identity_of d.main) (letter_of T) p row
+      by true = next_few (identity_of d.main) (letter_of T) p row
       by false = (omega arith, refl)
 
   -- next is the row as the call left it
@@ -230,7 +230,7 @@ module _ (L : Lines) (date t : Bytes) (at : ℕ) (p : Past) (row : List ℕ) (g 
     eq = ap (λ (x : Judged). x.past) er
 
     spaced : (b : Bool) → is_a (letter_of T) ≡ b → r.past.n ≤ p.n + cond b 1 0 → r.past.n * 86 ≤ at + size
-    spaced true e f = omega (arith, g.space, sized, accepted-long date (seen_by p row) L s doc moved.opened e refl)
+    spaced true e f = omega (arith, g.space, sized, accepted_long date (seen_by p row) L s doc moved.opened e refl)
     spaced false e f = omega (arith, g.space)
 
     pub going_on : Going t (at + size) r.past next
@@ -241,8 +241,8 @@ module _ (L : Lines) (date t : Bytes) (at : ℕ) (p : Past) (row : List ℕ) (g 
       whole = ap length en ∙ few.1 ∙ g.whole;
     }
 
-    pub turn-here : ahead L date t at p row ≡ T ∷ ahead L date t (at + size) r.past next
+    pub turn_here : ahead L date t at p row ≡ T ∷ ahead L date t (at + size) r.past next
     unfolding ahead
-    turn-here =
+    turn_here =
         ap (λ (ds : List Doc). turns date (seen_by p row) (map (asked L) ds)) moved.docs
         ∙ ap (λ (b : Before). T ∷ turns date b (map (asked L) (docs_of (records (drop (at + size) t))))) (sym left ∙ (λ i. seen_by (sym eq i) (sym en i)))

@@ -19,14 +19,14 @@ use Rattle.judge.specs.Kept.{listed}
 use Rattle.judge.specs.declared.Judged.{Judged}
 use Rattle.judge.specs.Judged.{broke_in, judged_of}
 use Rattle.judge.specs.Seen.{no_past, seen_by, row_after}
-use Rattle.judge.proofs.Seen.{starts-empty}
+use Rattle.judge.proofs.Seen.{starts_empty}
 use Rattle.sets.specs.Set.{set_as}
 use Rattle.paper.proofs.RecordSizes.{length-laid}
-use Rattle.paper.proofs.Room.{docs_weigh, sets-few}
+use Rattle.paper.proofs.Room.{docs_weigh, sets_few}
 use Rattle.text.proofs.Laying.{laid_append, lent_laid}
 use Rattle.ack.specs.declared.Stand.{Stand}
 use Rattle.ack.specs.Ties.{Begins, turns_in, sets_in, here, ahead, Going, Written, stand_at}
-use Rattle.ack.proofs.Onward.{said, kept-few, moved, set_here, set-size, going_on, turn-here}
+use Rattle.ack.proofs.Onward.{said, kept_few, moved, set_here, set_size, going_on, turn_here}
 
 -- A SOUND TRANSMISSION
 
@@ -40,29 +40,29 @@ pub record Touring (t : Bytes) (n i at : ℕ) (p : Past) (row : List ℕ) : Type
   pub most : n ≤ 65536
   pub count : n ≡ i + length (docs_of (records (drop at t)))
 
-pub tour-start : (t : Bytes) (n : ℕ) (row : List ℕ) → Begins t n → length row ≡ 762 → Touring t n 0 240 no_past row
-tour-start t n row b w = record {
+pub tour_start : (t : Bytes) (n : ℕ) (row : List ℕ) → Begins t n → length row ≡ 762 → Touring t n 0 240 no_past row
+tour_start t n row b w = record {
   going = record { short = b.short; stands = (sound_parts t b.good).stands; space = omega arith; whole = w };
   few = omega arith;
   most = b.few;
   count = omega (arith, b.count, ap length (sound_parts t b.good).docs);
 }
 
-pub tour-more : (t : Bytes) (n i at : ℕ) (p : Past) (row : List ℕ) → Touring t n i at p row → i < n → 0 < length (docs_of (records (drop at t)))
-tour-more t n i at p row o h = omega (arith, o.count)
+pub tour_more : (t : Bytes) (n i at : ℕ) (p : Past) (row : List ℕ) → Touring t n i at p row → i < n → 0 < length (docs_of (records (drop at t)))
+tour_more t n i at p row o h = omega (arith, o.count)
 
 nothing : {A : Type 0} (l : List A) → length l ≡ 0 → l ≡ []
 nothing [] h = refl
 nothing (x ∷ l) h = absurd (omega arith)
 
 module _ (L : Lines) (date t : Bytes) where
-  all-ahead : (n : ℕ) (row : List ℕ) → Begins t n → ahead L date t 240 no_past row ≡ turns_in L date t
+  all_ahead : (n : ℕ) (row : List ℕ) → Begins t n → ahead L date t 240 no_past row ≡ turns_in L date t
   unfolding ahead
-  all-ahead n row b = (λ i. turns date (starts-empty row i) (map (asked L) (sym (sound_parts t b.good).docs i)))
+  all_ahead n row b = (λ i. turns date (starts_empty row i) (map (asked L) (sym (sound_parts t b.good).docs i)))
 
-  tour-end : (n i at : ℕ) (p : Past) (row : List ℕ) → Touring t n i at p row → n ≤ i → ahead L date t at p row ≡ []
+  tour_end : (n i at : ℕ) (p : Past) (row : List ℕ) → Touring t n i at p row → n ≤ i → ahead L date t at p row ≡ []
   unfolding ahead
-  tour-end n i at p row o h = ap (λ (ds : List Doc). turns date (seen_by p row) (map (asked L) ds)) (nothing (docs_of (records (drop at t))) (omega (arith, o.count)))
+  tour_end n i at p row o h = ap (λ (ds : List Doc). turns date (seen_by p row) (map (asked L) ds)) (nothing (docs_of (records (drop at t))) (omega (arith, o.count)))
 
   -- the document at a place is passed
   module _ (n i at : ℕ) (p : Past) (row : List ℕ) (o : Touring t n i at p row) (h : i < n) (r : Judged) (er : r ≡ judged_of at (here L date t at p row) p row) where
@@ -73,28 +73,28 @@ module _ (L : Lines) (date t : Bytes) where
     kept = r.judgment.found.kept
 
     more : 0 < length (docs_of (records (drop at t)))
-    more = tour-more t n i at p row o h
+    more = tour_more t n i at p row o h
 
-    pub tour-fits : (kept ≤ 96) × (at + size ≤ length t) × (length t ≤ 65536)
-    tour-fits = (kept-few L date t at p row o.going more r er, (moved L date t at p row o.going more r er).stands.within, o.going.short)
+    pub tour_fits : (kept ≤ 96) × (at + size ≤ length t) × (length t ≤ 65536)
+    tour_fits = (kept_few L date t at p row o.going more r er, (moved L date t at p row o.going more r er).stands.within, o.going.short)
 
     module _ (next : List ℕ) (en : next ≡ row_after (here L date t at p row) p row) where
-      tour-on : Touring t n (i + 1) (at + size) r.past next
-      tour-on = record {
+      tour_on : Touring t n (i + 1) (at + size) r.past next
+      tour_on = record {
         going = going_on L date t at p row o.going more r er next en;
         few = omega arith;
         most = o.most;
         count = omega (arith, o.count, ap length (moved L date t at p row o.going more r er).docs);
       }
 
-      tour-turn : ahead L date t at p row ≡ here L date t at p row ∷ ahead L date t (at + size) r.past next
-      tour-turn = turn-here L date t at p row o.going more r er next en
+      tour_turn : ahead L date t at p row ≡ here L date t at p row ∷ ahead L date t (at + size) r.past next
+      tour_turn = turn_here L date t at p row o.going more r er next en
 
-      sets-size : length (sets_in (ahead L date t at p row)) ≡ 120 + 120 * kept + length (sets_in (ahead L date t (at + size) r.past next))
-      sets-size =
-          ap (λ (ts : List Turn). length (sets_in ts)) tour-turn
+      sets_size : length (sets_in (ahead L date t at p row)) ≡ 120 + 120 * kept + length (sets_in (ahead L date t (at + size) r.past next))
+      sets_size =
+          ap (λ (ts : List Turn). length (sets_in ts)) tour_turn
           ∙ length-append (set_of (here L date t at p row)) (sets_in (ahead L date t (at + size) r.past next))
-          ∙ omega (arith, set-size L date t at p row o.going more r er)
+          ∙ omega (arith, set_size L date t at p row o.going more r er)
 
   -- THE LOOP THAT MEASURES
 
@@ -103,25 +103,25 @@ module _ (L : Lines) (date t : Bytes) where
     pub small : size ≤ 2031616
     pub total : size + length (sets_in (ahead L date t at p row)) ≡ length (sets_in (turns_in L date t))
 
-  pub need-start : (n : ℕ) (row : List ℕ) (p : Past) → Begins t n → length row ≡ 762 → p ≡ no_past → Needing n row p 240 0 0
-  need-start n row p b w e =
+  pub need_start : (n : ℕ) (row : List ℕ) (p : Past) → Begins t n → length row ≡ 762 → p ≡ no_past → Needing n row p 240 0 0
+  need_start n row p b w e =
       subst (λ (x : Past). Needing n row x 240 0 0) (sym e)
-      (record { tour = tour-start t n row b w; small = omega arith; total = ap (λ (ts : List Turn). 0 + length (sets_in ts)) (all-ahead n row b) ∙ omega arith })
+      (record { tour = tour_start t n row b w; small = omega arith; total = ap (λ (ts : List Turn). 0 + length (sets_in ts)) (all_ahead n row b) ∙ omega arith })
 
   module _ (n : ℕ) (row : List ℕ) (p : Past) (at size i : ℕ) (o : Needing n row p at size i) where
-    pub need-on : i < n → (r : Judged) → r ≡ judged_of at (here L date t at p row) p row → (next : List ℕ) → next ≡ row_after (here L date t at p row) p row
+    pub need_on : i < n → (r : Judged) → r ≡ judged_of at (here L date t at p row) p row → (next : List ℕ) → next ≡ row_after (here L date t at p row) p row
         → Needing n next r.past (at + r.judgment.size) (size + (120 + 120 * r.judgment.found.kept)) (i + 1)
-    need-on h r er next en =
-        let size-on = sets-size n i at p row o.tour h r er next en in
+    need_on h r er next en =
+        let size_on = sets_size n i at p row o.tour h r er next en in
         record {
-          tour = tour-on n i at p row o.tour h r er next en;
-          small = omega (arith, o.total, size-on, sets-few L date t, o.tour.going.short);
-          total = omega (arith, o.total, size-on);
+          tour = tour_on n i at p row o.tour h r er next en;
+          small = omega (arith, o.total, size_on, sets_few L date t, o.tour.going.short);
+          total = omega (arith, o.total, size_on);
         }
 
-    pub need-end : n ≤ i → size + 360 ≡ 360 + length (sets_in (turns_in L date t))
-    need-end h =
-        let z : length (sets_in (ahead L date t at p row)) ≡ 0 = ap (λ (ts : List Turn). length (sets_in ts)) (tour-end n i at p row o.tour h) in
+    pub need_end : n ≤ i → size + 360 ≡ 360 + length (sets_in (turns_in L date t))
+    need_end h =
+        let z : length (sets_in (ahead L date t at p row)) ≡ 0 = ap (λ (ts : List Turn). length (sets_in ts)) (tour_end n i at p row o.tour h) in
         omega (arith, o.total)
 
   -- THE LOOP THAT WRITES
@@ -143,19 +143,19 @@ module _ (L : Lines) (date t : Bytes) where
   write_start n out row p b w e =
       subst (λ (x : Past). Writing n out row x 240 240 0 0 out) (sym e)
       (record {
-        tour = tour-start t n row b w;
+        tour = tour_start t n row b w;
         same = refl;
         small = omega arith;
-        place = ap (λ (ts : List Turn). 240 + length (sets_in ts)) (all-ahead n row b);
-        holds = ap (λ (ts : List Turn). laid out 240 (sets_in ts)) (all-ahead n row b);
-        counts = ap (λ (ts : List Turn). 0 + accepted_in ts) (all-ahead n row b) ∙ omega arith;
+        place = ap (λ (ts : List Turn). 240 + length (sets_in ts)) (all_ahead n row b);
+        holds = ap (λ (ts : List Turn). laid out 240 (sets_in ts)) (all_ahead n row b);
+        counts = ap (λ (ts : List Turn). 0 + accepted_in ts) (all_ahead n row b) ∙ omega arith;
       })
 
   module _ (n : ℕ) (out₀ : Bytes) (row : List ℕ) (p : Past) (at to acc i : ℕ) (out : Bytes) (o : Writing n out₀ row p at to acc i out) where
     pub write_end : n ≤ i → Written (turns_in L date t) 240 out₀ out (record { to = to; accepted = acc })
     unfolding laid
     write_end h =
-        let z : ahead L date t at p row ≡ [] = tour-end n i at p row o.tour h in
+        let z : ahead L date t at p row ≡ [] = tour_end n i at p row o.tour h in
         let z1 : length (sets_in (ahead L date t at p row)) ≡ 0 = ap (λ (ts : List Turn). length (sets_in ts)) z in
         let z2 : accepted_in (ahead L date t at p row) ≡ 0 = ap accepted_in z in
         record {
@@ -167,7 +167,7 @@ module _ (L : Lines) (date t : Bytes) where
 
     module _ (h : i < n) (r : Judged) (er : r ≡ judged_of at (here L date t at p row) p row) (f : 240 + length (sets_in (turns_in L date t)) ≤ length out₀) where
       abbrev m : 0 < length (docs_of (records (drop at t)))
-      m = tour-more t n i at p row o.tour h
+      m = tour_more t n i at p row o.tour h
 
       abbrev k : ℕ
       k = r.judgment.found.kept
@@ -178,8 +178,8 @@ module _ (L : Lines) (date t : Bytes) where
       -- the set of this document fits
       pub write_fits : (to + (120 + 120 * k) ≤ length out) × (to ≤ 2031856)
       write_fits = (
-        omega (arith, o.place, o.same, sets-size n i at p row o.tour h r er (row_after (here L date t at p row) p row) refl),
-        omega (arith, o.place, sets-few L date t, o.tour.going.short),
+        omega (arith, o.place, o.same, sets_size n i at p row o.tour h r er (row_after (here L date t at p row) p row) refl),
+        omega (arith, o.place, sets_few L date t, o.tour.going.short),
       )
 
       -- the output with the set written into what is left of it
@@ -196,8 +196,8 @@ module _ (L : Lines) (date t : Bytes) where
           let ts = ahead L date t (at + d) r.past next in
           let g = o.tour.going in
           let free = take (length out - to) (drop to out) in
-          let size : length (set_of T) ≡ 120 + 120 * k = set-size L date t at p row g m r er in
-          let low : k ≤ 96 = kept-few L date t at p row g m r er in
+          let size : length (set_of T) ≡ 120 + 120 * k = set_size L date t at p row g m r er in
+          let low : k ≤ 96 = kept_few L date t at p row g m r er in
           let fits : to + length (set_of T) ≤ length out = omega (arith, write_fits.0) in
           let roomy : 120 + 120 * min 96 k ≤ length free = omega (arith, write_fits.0, length-take (length out - to) (drop to out), length-drop to out) in
           let set : filled new ≡ laid out to (set_of T) =
@@ -205,12 +205,12 @@ module _ (L : Lines) (date t : Bytes) where
           (e ∙ ap (λ (b : Bool). cond b (laid free 0 (set_as (take (at + d - at) (drop at t)) t date r.judgment x)) free) (le-leb (120 + 120 * min 96 k) (length free) roomy)
           ∙ ap (laid free 0) (set_here L date t at p row g m r er list x w ex)) in
           let on : to + (120 + 120 * k) ≡ to + length (set_of T) = omega arith in
-          let turn : ahead L date t at p row ≡ T ∷ ts = tour-turn n i at p row o.tour h r er next en in
+          let turn : ahead L date t at p row ≡ T ∷ ts = tour_turn n i at p row o.tour h r er next en in
           record {
-            tour = tour-on n i at p row o.tour h r er next en;
+            tour = tour_on n i at p row o.tour h r er next en;
             same = ap length set ∙ length-laid out to (set_of T) ∙ o.same;
             small = omega (arith, o.small);
-            place = omega (arith, o.place, sets-size n i at p row o.tour h r er next en);
+            place = omega (arith, o.place, sets_size n i at p row o.tour h r er next en);
             holds =
                 (λ a. laid (set a) (on a) (sets_in ts)) ∙ laid_append (set_of T) (sets_in ts) out to
                 ∙ ap (λ (l : List Turn). laid out to (sets_in l)) (sym turn) ∙ o.holds;

@@ -27,9 +27,9 @@ use Rattle.pack.specs.declared.Places.{Places}
 use Rattle.pack.specs.Shape.{lines_at}
 use Rattle.pack.proofs.Laws.{blocks_there}
 use Rattle.lookup.specs.Find.{sought}
-use Rattle.lookup.proofs.Laws.{sought-lines}
+use Rattle.lookup.proofs.Laws.{sought_lines}
 use Rattle.judge.specs.Judged.{searched}
-use Rattle.judge.proofs.Ties.{asked-sought}
+use Rattle.judge.proofs.Ties.{asked_sought}
 use Rattle.rejection.specs.Given.{Given}
 use Rattle.route.specs.declared.Route.{Route}
 use Rattle.route.specs.declared.Route.TheVariants.{Refuse, Reject, Judge}
@@ -37,17 +37,17 @@ use Rattle.route.specs.Way.{route_of, sequence_for, Ready}
 use Rattle.route.proofs.Laws.{refused, whole, ready}
 use Rattle.ack.specs.Ties.{Begins, turns_in, sets_in, judged_file}
 use Rattle.ack.proofs.Tour.{begins}
-use Rattle.ack.proofs.Whole.{file-size}
+use Rattle.ack.proofs.Whole.{file_size}
 
 -- BY THE ROWS OF THE PACK
 
 -- the searches in four blocks give every document the same
-same-turns : (b : Blocks) (date : Bytes) (p : Parsed) → turns_of (sought b) date p ≡ turns_of (searched b.one b.two b.three b.four) date p
-same-turns b date p = ap (turns date start) (all p.docs)
+same_turns : (b : Blocks) (date : Bytes) (p : Parsed) → turns_of (sought b) date p ≡ turns_of (searched b.one b.two b.three b.four) date p
+same_turns b date p = ap (turns date start) (all p.docs)
   where
     all : (ds : List Doc) → map (asked (sought b)) ds ≡ map (asked (searched b.one b.two b.three b.four)) ds
     all [] = refl
-    all (d ∷ ds) = λ i. sym (asked-sought b d) i ∷ all ds i
+    all (d ∷ ds) = λ i. sym (asked_sought b d) i ∷ all ds i
 
 -- a transmission that is judged, and four rows of its pack
 module _ (t pack date : Bytes) (n : ℕ) (places : Places) (r : Ready t pack date n places) where
@@ -55,25 +55,25 @@ module _ (t pack date : Bytes) (n : ℕ) (places : Places) (r : Ready t pack dat
   begun = begins t n r.short r.good r.count
 
   -- the file is that of its turns
-  judged-file : (name : Bytes) → prescribed t pack date name ≡ judged_file (lines_of (blocks_of pack)) date name t
+  judged_file_lem : (name : Bytes) → prescribed t pack date name ≡ judged_file (lines_of (blocks_of pack)) date name t
   unfolding prescribed file_of judged_file
-  judged-file name = ap (file_from name) r.outcome
+  judged_file_lem name = ap (file_from name) r.outcome
 
-  pub judged-size : (name : Bytes) → length (prescribed t pack date name) ≡ 360 + length (sets_in (turns_in (lines_of (blocks_of pack)) date t))
-  judged-size name = ap length (judged-file name) ∙ file-size (lines_of (blocks_of pack)) date name t n begun
+  pub judged_size : (name : Bytes) → length (prescribed t pack date name) ≡ 360 + length (sets_in (turns_in (lines_of (blocks_of pack)) date t))
+  judged_size name = ap length (judged_file_lem name) ∙ file_size (lines_of (blocks_of pack)) date name t n begun
 
   module _ (one two three four : Bytes) (e1 : one ≡ lines_at places.one pack) (e2 : two ≡ lines_at places.two pack) (e3 : three ≡ lines_at places.three pack) (e4 : four ≡ lines_at places.four pack) where
-    pub row-turns : turns_in (searched one two three four) date t ≡ turns_in (lines_of (blocks_of pack)) date t
-    row-turns =
+    pub row_turns : turns_in (searched one two three four) date t ≡ turns_in (lines_of (blocks_of pack)) date t
+    row_turns =
         let b = blocks_there pack places r.there in
         (λ i. turns_in (searched (e1 i) (e2 i) (e3 i) (e4 i)) date t)
         ∙ (λ i. turns_in (searched (b i).one (b i).two (b i).three (b i).four) date t)
-        ∙ sym (same-turns (blocks_of pack) date (parsed_of (records t)))
-        ∙ (λ i. turns_in (sought-lines pack r.well i) date t)
+        ∙ sym (same_turns (blocks_of pack) date (parsed_of (records t)))
+        ∙ (λ i. turns_in (sought_lines pack r.well i) date t)
 
-    pub row-file : (name : Bytes) → judged_file (searched one two three four) date name t ≡ prescribed t pack date name
+    pub row_file : (name : Bytes) → judged_file (searched one two three four) date name t ≡ prescribed t pack date name
     unfolding prescribed file_of judged_file
-    row-file name = ap (λ (ts : List Turn). file_from name (judged (parsed_of (records t)) ts)) row-turns ∙ sym (judged-file name)
+    row_file name = ap (λ (ts : List Turn). file_from name (judged (parsed_of (records t)) ts)) row_turns ∙ sym (judged_file_lem name)
 
 -- THE 12 DIGITS OF A WHOLE REJECTION
 
@@ -91,16 +91,16 @@ module _ (t pack date name : Bytes) (w : Route) (e : w ≡ route_of t pack date 
   file = prescribed t pack date name
 
   module _ (r : Refusal) (q : w ≡ Refuse r) where
-    is-refused : refusal_of t pack date name ≡ some r
-    is-refused = refused t pack date name r (sym e ∙ q)
+    is_refused : refusal_of t pack date name ≡ some r
+    is_refused = refused t pack date name r (sym e ∙ q)
 
     pub refuses : (n : ℕ) → Refused r ≡ answer t pack date name n
     unfolding answer
-    refuses n = ap (λ (x : Option Refusal). refused_or x (room_for n file)) (sym is-refused)
+    refuses n = ap (λ (x : Option Refusal). refused_or x (room_for n file)) (sym is_refused)
 
-    pub refuses-need : Refused r ≡ need t pack date name
+    pub refuses_need : Refused r ≡ need t pack date name
     unfolding need
-    refuses-need = ap (λ (x : Option Refusal). refused_or x (File (length file))) (sym is-refused)
+    refuses_need = ap (λ (x : Option Refusal). refused_or x (File (length file))) (sym is_refused)
 
   module _ (free : refusal_of t pack date name ≡ none) where
     answers : (out out' : Bytes) (a : Answer) → Given file out out' a → (a ≡ answer t pack date name (length out)) × (out' ≡ left_by a file out)
@@ -112,33 +112,33 @@ module _ (t pack date name : Bytes) (w : Route) (e : w ≡ route_of t pack date 
     needs k q = ap File q ∙ ap (λ (x : Option Refusal). refused_or x (File (length file))) (sym free)
 
   module _ (codes : Codes) (q : w ≡ Reject codes) where
-    rejected-file : file ≡ rejection (sequence_for codes t) codes
+    rejected_file : file ≡ rejection (sequence_for codes t) codes
     unfolding prescribed file_of
-    rejected-file = ap (file_from name) (whole t pack date name codes (sym e ∙ q)).1
+    rejected_file = ap (file_from name) (whole t pack date name codes (sym e ∙ q)).1
 
     pub rejects : (sequence out out' : Bytes) (a : Answer) → sequence ≡ sequence_for codes t → Given (rejection sequence codes) out out' a → (a ≡ answer t pack date name (length out)) × (out' ≡ left_by a file out)
     rejects sequence out out' a es g =
-        answers (whole t pack date name codes (sym e ∙ q)).0 out out' a (subst (λ (f : Bytes). Given f out out' a) (ap (λ (s : Bytes). rejection s codes) es ∙ sym rejected-file) g)
+        answers (whole t pack date name codes (sym e ∙ q)).0 out out' a (subst (λ (f : Bytes). Given f out out' a) (ap (λ (s : Bytes). rejection s codes) es ∙ sym rejected_file) g)
 
-    pub rejects-need : (k : ℕ) → k ≡ 120 + 120 * length (code_list codes) → File k ≡ need t pack date name
-    rejects-need k ek = needs (whole t pack date name codes (sym e ∙ q)).0 k (ek ∙ sym (ap length rejected-file ∙ length-rejection (sequence_for codes t) codes))
+    pub rejects_need : (k : ℕ) → k ≡ 120 + 120 * length (code_list codes) → File k ≡ need t pack date name
+    rejects_need k ek = needs (whole t pack date name codes (sym e ∙ q)).0 k (ek ∙ sym (ap length rejected_file ∙ length-rejection (sequence_for codes t) codes))
 
   module _ (n : ℕ) (places : Places) (q : w ≡ Judge n places) where
-    pub is-ready : Ready t pack date n places
-    is-ready = (ready t pack date name n places (sym e ∙ q)).1
+    pub is_ready : Ready t pack date n places
+    is_ready = (ready t pack date name n places (sym e ∙ q)).1
 
     pub judges : (out out' : Bytes) (a : Answer) → Given file out out' a → (a ≡ answer t pack date name (length out)) × (out' ≡ left_by a file out)
     judges out out' a g = answers (ready t pack date name n places (sym e ∙ q)).0 out out' a g
 
-    pub judges-need : (k : ℕ) → k ≡ 360 + length (sets_in (turns_in (lines_of (blocks_of pack)) date t)) → File k ≡ need t pack date name
-    judges-need k ek = needs (ready t pack date name n places (sym e ∙ q)).0 k (ek ∙ sym (judged-size t pack date n places is-ready name))
+    pub judges_need : (k : ℕ) → k ≡ 360 + length (sets_in (turns_in (lines_of (blocks_of pack)) date t)) → File k ≡ need t pack date name
+    judges_need k ek = needs (ready t pack date name n places (sym e ∙ q)).0 k (ek ∙ sym (judged_size t pack date n places is_ready name))
 
 -- THE CODE OF AN ANSWER
 
 module _ (a : Answer) where
-  pub coded-file : (n : ℕ) → a ≡ File n → n ≡ coded a
+  pub coded_file : (n : ℕ) → a ≡ File n → n ≡ coded a
   unfolding coded
-  coded-file n e = let z : n ≡ 0 * 4294967296 + n = omega arith in z ∙ ap coded (sym e)
+  coded_file n e = let z : n ≡ 0 * 4294967296 + n = omega arith in z ∙ ap coded (sym e)
 
   pub coded_as : (a' : Answer) (k : ℕ) → k ≡ coded a → a ≡ a' → k ≡ coded a'
   coded_as a' k e q = e ∙ ap coded q
@@ -146,6 +146,6 @@ module _ (a : Answer) where
   pub left_as : (a' : Answer) (file out out' : Bytes) → out' ≡ left_by a file out → a ≡ a' → out' ≡ left_by a' file out
   left_as a' file out out' e q = e ∙ ap (λ (x : Answer). left_by x file out) q
 
-  pub coded-refused : (r : Refusal) (k : ℕ) → a ≡ Refused r → k ≡ refusal_number r → k * 4294967296 ≡ coded a
+  pub coded_refused : (r : Refusal) (k : ℕ) → a ≡ Refused r → k ≡ refusal_number r → k * 4294967296 ≡ coded a
   unfolding coded
-  coded-refused r k e q = let z : k * 4294967296 ≡ refusal_number r * 4294967296 + 0 = omega arith in z ∙ ap coded (sym e)
+  coded_refused r k e q = let z : k * 4294967296 ≡ refusal_number r * 4294967296 + 0 = omega arith in z ∙ ap coded (sym e)

@@ -18,10 +18,10 @@ later_first true false false = refl
 later_first false y z = refl
 
 module _ (type : Bytes) (n : ℕ) (own form : Bytes) (whole : Facts) where
-  pub missing-asked : missing type n own form whole ≡ (asks_own type own form whole && blank (field LAuth n own))
+  pub missing_asked : missing type n own form whole ≡ (asks_own type own form whole && blank (field LAuth n own))
   unfolding missing
-  missing-asked = later_first (typed type own && ltb 0 whole.pays) (blank (field LAuth n own)) (not (spouse_only form whole))
+  missing_asked = later_first (typed type own && ltb 0 whole.pays) (blank (field LAuth n own)) (not (spouse_only form whole))
 
-  pub missing-spouse-asked : missing_spouse type n own form whole ≡ (asks_spouse type own form whole && blank (field LAuth n own))
+  pub missing_spouse_asked : missing_spouse type n own form whole ≡ (asks_spouse type own form whole && blank (field LAuth n own))
   unfolding missing_spouse
-  missing-spouse-asked = later_first (typed type own && ltb 0 whole.pays && present (field L4868 100 form)) (blank (field LAuth n own)) (not (self_only form whole))
+  missing_spouse_asked = later_first (typed type own && ltb 0 whole.pays && present (field L4868 100 form)) (blank (field LAuth n own)) (not (self_only form whole))

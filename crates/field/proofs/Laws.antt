@@ -32,15 +32,15 @@ module _ (p q : ℕ → Bool) (s : List ℕ) (i : ℕ) (f : Bool) (v : beside p 
       v ∙ ap (λ (b : Bool). f || b) (two h ∙ ap (λ (b : Bool). b || beside p q (drop i s)) (sym e)) ∙ sym (or_assoc f r (beside p q (drop i s)))
       ∙ ap (λ (n : ℕ). (f || r) || beside p q (drop n s)) k
 
-  pub beside-done : length s ≤ i → f ≡ beside p q s
-  beside-done h = sym (v ∙ ap (λ (b : Bool). f || b) (go (drop (i - 1) s) refl) ∙ or-false f)
+  pub beside_done : length s ≤ i → f ≡ beside p q s
+  beside_done h = sym (v ∙ ap (λ (b : Bool). f || b) (go (drop (i - 1) s) refl) ∙ or-false f)
     where
       go : (l : List ℕ) → drop (i - 1) s ≡ l → beside p q l ≡ false
       go [] e = refl
       go (x ∷ []) e = refl
       go (x ∷ y ∷ l) e = absurd (omega (arith, length-drop (i - 1) s, ap length e))
 
-pub ruleset beside-loop = (beside_again, beside-done)
+pub ruleset beside-loop = (beside_again, beside_done)
 
 neither : (a b : Bool) → (a || b) ≡ false → (a ≡ false) × (b ≡ false)
 neither true b h = absurd (never (sym h))
@@ -56,9 +56,9 @@ none_beside p q (x ∷ y ∷ s) h =
     rw (a.0, and_right (q x) (p y) b.0) (none_beside p q (y ∷ s) a.1)
 
 -- a name that is spaced, with one test for both sides of a "<"
-pub name-rest : (s : List ℕ) → spaced s ≡ true → (is_letter (get_or s 0 0) && every name_byte s && not (beside is_less is_space s || beside is_space is_less s)) ≡ name s
+pub name_rest : (s : List ℕ) → spaced s ≡ true → (is_letter (get_or s 0 0) && every name_byte s && not (beside is_less is_space s || beside is_space is_less s)) ≡ name s
 unfolding name
-name-rest s t =
+name_rest s t =
     (λ i. sym t i && is_letter (get_or s 0 0) && every name_byte s && not (beside is_less is_space s || beside is_space is_less s))
     ∙ go (spaced s && is_letter (get_or s 0 0) && every name_byte s) (beside is_less is_space s) (beside is_space is_less s)
   where
@@ -69,19 +69,19 @@ name-rest s t =
 
 -- The answers of a loop over the zeros before the blanks
 module _ (s : List ℕ) (i : ℕ) (v : zeros_then_blanks s ≡ zeros_then_blanks (drop i s)) where
-  first-zero : i < length s → zeros_then_blanks s ≡ cond (is_zero (get_or s i 0)) (zeros_then_blanks (drop (i + 1) s)) (blank (get_or s i 0 ∷ drop (i + 1) s))
-  first-zero h = v ∙ ap zeros_then_blanks (next s i h)
+  first_zero : i < length s → zeros_then_blanks s ≡ cond (is_zero (get_or s i 0)) (zeros_then_blanks (drop (i + 1) s)) (blank (get_or s i 0 ∷ drop (i + 1) s))
+  first_zero h = v ∙ ap zeros_then_blanks (next s i h)
 
   pub zeros_again : i < length s → get_or s i 0 ≡ 48 → zeros_then_blanks s ≡ zeros_then_blanks (drop (i + 1) s)
   zeros_again h e =
-      first-zero h ∙ ap (λ (b : Bool). cond b (zeros_then_blanks (drop (i + 1) s)) (blank (get_or s i 0 ∷ drop (i + 1) s))) (eq-eqb _ _ e)
+      first_zero h ∙ ap (λ (b : Bool). cond b (zeros_then_blanks (drop (i + 1) s)) (blank (get_or s i 0 ∷ drop (i + 1) s))) (eq-eqb _ _ e)
 
-  pub zeros-end : (r : Bool) → i < length s → (get_or s i 0 ≡ 48 → ⊥) → r ≡ blank (take (length s - i) (drop i s)) → r ≡ zeros_then_blanks s
-  zeros-end r h e f =
+  pub zeros_end : (r : Bool) → i < length s → (get_or s i 0 ≡ 48 → ⊥) → r ≡ blank (take (length s - i) (drop i s)) → r ≡ zeros_then_blanks s
+  zeros_end r h e f =
       f ∙ ap blank (take_all (length s - i) (drop i s) (le_of_eq (length-drop i s)) ∙ next s i h)
-      ∙ sym (first-zero h ∙ ap (λ (b : Bool). cond b (zeros_then_blanks (drop (i + 1) s)) (blank (get_or s i 0 ∷ drop (i + 1) s))) (ne_eqb _ _ e))
+      ∙ sym (first_zero h ∙ ap (λ (b : Bool). cond b (zeros_then_blanks (drop (i + 1) s)) (blank (get_or s i 0 ∷ drop (i + 1) s))) (ne_eqb _ _ e))
 
-  pub zeros-only : length s ≤ i → true ≡ zeros_then_blanks s
-  zeros-only h = sym (v ∙ ap zeros_then_blanks (ended s i h))
+  pub zeros_only : length s ≤ i → true ≡ zeros_then_blanks s
+  zeros_only h = sym (v ∙ ap zeros_then_blanks (ended s i h))
 
-pub ruleset zeros-loop = (zeros_again, zeros-end, zeros-only)
+pub ruleset zeros-loop = (zeros_again, zeros_end, zeros_only)

@@ -16,15 +16,15 @@ use Rattle.field.specs.Gap.{gap}
 -- WITHOUT THE SPACES AT THE END
 
 -- nothing is left of blanks, and of them alone
-trim-blank : (s : Bytes) → blank s ≡ true → trim s ≡ []
-trim-blank [] h = refl
-trim-blank (x ∷ s) h =
+trim_blank : (s : Bytes) → blank s ≡ true → trim s ≡ []
+trim_blank [] h = refl
+trim_blank (x ∷ s) h =
     let p = both (is_space x) (blank s) h in
-    ap (cons_trim x) (trim-blank s p.1) ∙ ap (λ (b : Bool). cond b [] (x ∷ [])) p.0
+    ap (cons_trim x) (trim_blank s p.1) ∙ ap (λ (b : Bool). cond b [] (x ∷ [])) p.0
 
-blank-trim : (s : Bytes) → trim s ≡ [] → blank s ≡ true
-blank-trim [] e = refl
-blank-trim (x ∷ s) e = go (trim s) refl (blank-trim s)
+blank_trim : (s : Bytes) → trim s ≡ [] → blank s ≡ true
+blank_trim [] e = refl
+blank_trim (x ∷ s) e = go (trim s) refl (blank_trim s)
   where
     only : (b : Bool) → is_space x ≡ b → cond b [] (x ∷ []) ≡ [] → is_space x ≡ true
     only true f g = f
@@ -35,9 +35,9 @@ blank-trim (x ∷ s) e = go (trim s) refl (blank-trim s)
     go (y ∷ t) f h = absurd (omega (arith, ap length (sym (ap (cons_trim x) f) ∙ e)))
 
 -- what is left begins as the whole does
-trim-first : (s : Bytes) (y : ℕ) (t : Bytes) → trim s ≡ y ∷ t → get_or s 0 32 ≡ y
-trim-first [] y t e = absurd (omega (arith, ap length e))
-trim-first (x ∷ s) y t e = go (trim s) refl
+trim_first : (s : Bytes) (y : ℕ) (t : Bytes) → trim s ≡ y ∷ t → get_or s 0 32 ≡ y
+trim_first [] y t e = absurd (omega (arith, ap length e))
+trim_first (x ∷ s) y t e = go (trim s) refl
   where
     one : (b : Bool) → cond b [] (x ∷ []) ≡ y ∷ t → x ≡ y
     one true f = absurd (omega (arith, ap length f))
@@ -49,13 +49,13 @@ trim-first (x ∷ s) y t e = go (trim s) refl
 
 -- TWO SPACES BEFORE ANOTHER BYTE
 
-gap-blank : (x : ℕ) (s : Bytes) → blank s ≡ true → gap (x ∷ s) ≡ false
-gap-blank x [] h = refl
-gap-blank x (y ∷ []) h = refl
-gap-blank x (y ∷ z ∷ s) h =
+gap_blank : (x : ℕ) (s : Bytes) → blank s ≡ true → gap (x ∷ s) ≡ false
+gap_blank x [] h = refl
+gap_blank x (y ∷ []) h = refl
+gap_blank x (y ∷ z ∷ s) h =
     let p = both (is_space y) (blank (z ∷ s)) h in
     let q = both (is_space z) (blank s) p.1 in
-    (λ i. is_space x && is_space y && not (q.0 i) || gap (y ∷ z ∷ s)) ∙ none (is_space x) (is_space y) (gap (y ∷ z ∷ s)) ∙ gap-blank y (z ∷ s) p.1
+    (λ i. is_space x && is_space y && not (q.0 i) || gap (y ∷ z ∷ s)) ∙ none (is_space x) (is_space y) (gap (y ∷ z ∷ s)) ∙ gap_blank y (z ∷ s) p.1
   where
     none : (a b c : Bool) → (a && b && false || c) ≡ c
     none true true c = refl
@@ -63,9 +63,9 @@ gap-blank x (y ∷ z ∷ s) h =
     none false b c = refl
 
 -- two spaces at the front of what is not blank
-gap-front : (y z : ℕ) (s : Bytes) → is_space y ≡ true → is_space z ≡ true → blank s ≡ false → gap (y ∷ z ∷ s) ≡ true
-gap-front y z [] e f h = absurd (never (sym h))
-gap-front y z (x ∷ s) e f h = go (is_space x) refl (gap-front z x s f)
+gap_front : (y z : ℕ) (s : Bytes) → is_space y ≡ true → is_space z ≡ true → blank s ≡ false → gap (y ∷ z ∷ s) ≡ true
+gap_front y z [] e f h = absurd (never (sym h))
+gap_front y z (x ∷ s) e f h = go (is_space x) refl (gap_front z x s f)
   where
     go : (b : Bool) → is_space x ≡ b → (is_space x ≡ true → blank s ≡ false → gap (z ∷ x ∷ s) ≡ true) → gap (y ∷ z ∷ x ∷ s) ≡ true
     go true g r =
@@ -77,7 +77,7 @@ gap_more : (x : ℕ) (s : Bytes) → blank s ≡ false → (is_space x && is_spa
 gap_more x [] h = absurd (never (sym h))
 gap_more x (a ∷ []) h = ap (λ (b : Bool). is_space x && b || false) (sym (and-true (is_space a)) ∙ h) ∙ or-false _ ∙ and-false (is_space x)
 gap_more x (a ∷ z ∷ s) h =
-    by (is_space x) (is_space a) (is_space z) (gap (a ∷ z ∷ s)) (λ e f. gap-front a z s e f (sym (λ i. e i && (f i && blank s)) ∙ h))
+    by (is_space x) (is_space a) (is_space z) (gap (a ∷ z ∷ s)) (λ e f. gap_front a z s e f (sym (λ i. e i && (f i && blank s)) ∙ h))
   where
     by : (p a z g : Bool) → (a ≡ true → z ≡ true → g ≡ true) → (p && a || g) ≡ (p && a && not z || g)
     by true true true true h = refl
@@ -87,49 +87,49 @@ gap_more x (a ∷ z ∷ s) h =
     by false a z g h = refl
 
 -- of what is left without the spaces at the end
-beside-gap : (s : Bytes) → beside is_space is_space (trim s) ≡ gap s
-beside-gap [] = refl
-beside-gap (x ∷ s) = go (trim s) refl (beside-gap s)
+beside_gap : (s : Bytes) → beside is_space is_space (trim s) ≡ gap s
+beside_gap [] = refl
+beside_gap (x ∷ s) = go (trim s) refl (beside_gap s)
   where
     one : (b : Bool) → beside is_space is_space (cond b [] (x ∷ [])) ≡ false
     one true = refl
     one false = refl
 
     some : (b : Bool) (y : ℕ) (t : Bytes) → blank s ≡ b → trim s ≡ y ∷ t → blank s ≡ false
-    some true y t f e = absurd (omega (arith, ap length (sym (trim-blank s f) ∙ e)))
+    some true y t f e = absurd (omega (arith, ap length (sym (trim_blank s f) ∙ e)))
     some false y t f e = f
 
     go : (t : Bytes) → trim s ≡ t → beside is_space is_space (trim s) ≡ gap s → beside is_space is_space (trim (x ∷ s)) ≡ gap (x ∷ s)
-    go [] e h = ap (λ (t : Bytes). beside is_space is_space (cons_trim x t)) e ∙ one (is_space x) ∙ sym (gap-blank x s (blank-trim s e))
+    go [] e h = ap (λ (t : Bytes). beside is_space is_space (cons_trim x t)) e ∙ one (is_space x) ∙ sym (gap_blank x s (blank_trim s e))
     go (y ∷ t) e h =
         ap (λ (u : Bytes). beside is_space is_space (cons_trim x u)) e
-        ∙ (λ i. is_space x && is_space (sym (trim-first s y t e) i) || (sym (ap (beside is_space is_space) e) ∙ h) i)
+        ∙ (λ i. is_space x && is_space (sym (trim_first s y t e) i) || (sym (ap (beside is_space is_space) e) ∙ h) i)
         ∙ gap_more x s (some (blank s) y t refl e)
 
 -- "spaced", over the whole field
-pub spaced-gap : (s : Bytes) → (not (is_space (get_or s 0 32)) && not (gap s)) ≡ spaced s
+pub spaced_gap : (s : Bytes) → (not (is_space (get_or s 0 32)) && not (gap s)) ≡ spaced s
 unfolding spaced
-spaced-gap s = λ i. not (is_space (first i)) && not (sym (beside-gap s) i)
+spaced_gap s = λ i. not (is_space (first i)) && not (sym (beside_gap s) i)
   where
     by : (l : Bytes) → trim s ≡ l → get_or s 0 32 ≡ get_or l 0 32
-    by [] e = go s (blank-trim s e)
+    by [] e = go s (blank_trim s e)
       where
         go : (s : Bytes) → blank s ≡ true → get_or s 0 32 ≡ 32
         go [] h = refl
         go (x ∷ s) h = eqb-true x 32 (both (is_space x) (blank s) h).0
-    by (y ∷ t) e = trim-first s y t e
+    by (y ∷ t) e = trim_first s y t e
 
     first : get_or s 0 32 ≡ get_or (trim s) 0 32
     first = by (trim s) refl
 
-pub spaced-none : (s : Bytes) → length s ≡ 0 → false ≡ spaced s
+pub spaced_none : (s : Bytes) → length s ≡ 0 → false ≡ spaced s
 unfolding spaced
-spaced-none [] h = refl
-spaced-none (x ∷ s) h = absurd (omega arith)
+spaced_none [] h = refl
+spaced_none (x ∷ s) h = absurd (omega arith)
 
-pub spaced-some : (s : Bytes) (g : Bool) → (length s ≡ 0 → ⊥) → g ≡ gap s → (not (is_space (get_or s 0 0)) && not g) ≡ spaced s
-spaced-some [] g h e = absurd (h refl)
-spaced-some (x ∷ s) g h e = ap (λ (b : Bool). not (is_space x) && not b) e ∙ spaced-gap (x ∷ s)
+pub spaced_some : (s : Bytes) (g : Bool) → (length s ≡ 0 → ⊥) → g ≡ gap s → (not (is_space (get_or s 0 0)) && not g) ≡ spaced s
+spaced_some [] g h e = absurd (h refl)
+spaced_some (x ∷ s) g h e = ap (λ (b : Bool). not (is_space x) && not b) e ∙ spaced_gap (x ∷ s)
 
 -- The answers of a loop over three bytes side by side; f says whether they stand before i, r whether they are the three at i
 module _ (s : Bytes) (i : ℕ) (f : Bool) (v : gap s ≡ (f || gap (drop (i - 2) s))) (o : 2 ≤ i) where
@@ -151,8 +151,8 @@ module _ (s : Bytes) (i : ℕ) (f : Bool) (v : gap s ≡ (f || gap (drop (i - 2)
       v ∙ ap (λ (b : Bool). f || b) (three h ∙ ap (λ (b : Bool). b || gap (drop (i - 1) s)) (sym e)) ∙ sym (or_assoc f r (gap (drop (i - 1) s)))
       ∙ ap (λ (n : ℕ). (f || r) || gap (drop n s)) k
 
-  pub gap-done : length s ≤ i → f ≡ gap s
-  gap-done h = sym (v ∙ ap (λ (b : Bool). f || b) (go (drop (i - 2) s) refl) ∙ or-false f)
+  pub gap_done : length s ≤ i → f ≡ gap s
+  gap_done h = sym (v ∙ ap (λ (b : Bool). f || b) (go (drop (i - 2) s) refl) ∙ or-false f)
     where
       go : (l : Bytes) → drop (i - 2) s ≡ l → gap l ≡ false
       go [] e = refl
@@ -160,7 +160,7 @@ module _ (s : Bytes) (i : ℕ) (f : Bool) (v : gap s ≡ (f || gap (drop (i - 2)
       go (x ∷ y ∷ []) e = refl
       go (x ∷ y ∷ z ∷ l) e = absurd (omega (arith, length-drop (i - 2) s, ap length e))
 
-pub ruleset gap-loop = (gap_again, gap-done)
+pub ruleset gap-loop = (gap_again, gap_done)
 
 -- THE BYTES BEFORE THE FIRST THAT DOES NOT PASS, of a test that a space does not pass
 
@@ -174,13 +174,13 @@ module _ (p : ℕ → Bool) (no : p 32 ≡ false) where
       go false e h = refl
 
   -- only blanks after them: they are what is left without the spaces at the end
-  front-trim : (s : Bytes) → blank (drop (first_not p s) s) ≡ true → trim s ≡ take (first_not p s) s
-  front-trim [] h = refl
-  front-trim (x ∷ s) h = go (p x) refl h (front-trim s)
+  front_trim : (s : Bytes) → blank (drop (first_not p s) s) ≡ true → trim s ≡ take (first_not p s) s
+  front_trim [] h = refl
+  front_trim (x ∷ s) h = go (p x) refl h (front_trim s)
     where
-      not-space : (b : Bool) → is_space x ≡ b → p x ≡ true → is_space x ≡ false
-      not-space true e f = absurd (never (sym no ∙ ap p (sym (eqb-true x 32 e)) ∙ f))
-      not-space false e f = e
+      not_space : (b : Bool) → is_space x ≡ b → p x ≡ true → is_space x ≡ false
+      not_space true e f = absurd (never (sym no ∙ ap p (sym (eqb-true x 32 e)) ∙ f))
+      not_space false e f = e
 
       keep : (t : Bytes) → is_space x ≡ false → cons_trim x t ≡ x ∷ t
       keep [] e = ap (λ (b : Bool). cond b [] (x ∷ [])) e
@@ -188,8 +188,8 @@ module _ (p : ℕ → Bool) (no : p 32 ≡ false) where
 
       go : (b : Bool) → p x ≡ b → blank (drop (cond b (suc (first_not p s)) 0) (x ∷ s)) ≡ true → (blank (drop (first_not p s) s) ≡ true → trim s ≡ take (first_not p s) s)
           → trim (x ∷ s) ≡ take (cond b (suc (first_not p s)) 0) (x ∷ s)
-      go true e h r = ap (cons_trim x) (r h) ∙ keep (take (first_not p s) s) (not-space (is_space x) refl e)
-      go false e h r = trim-blank (x ∷ s) h
+      go true e h r = ap (cons_trim x) (r h) ∙ keep (take (first_not p s) s) (not_space (is_space x) refl e)
+      go false e h r = trim_blank (x ∷ s) h
 
   -- else what is left has one that does not pass
   front_fails : (s : Bytes) → blank (drop (first_not p s) s) ≡ false → every p (trim s) ≡ false
@@ -203,7 +203,7 @@ module _ (p : ℕ → Bool) (no : p 32 ≡ false) where
       go false e [] f h r = ap (λ (u : Bytes). every p (cons_trim x u)) f ∙ one (is_space x) refl
         where
           one : (b : Bool) → is_space x ≡ b → every p (cond b [] (x ∷ [])) ≡ false
-          one true g = absurd (never (sym (sym (λ i. g i && blank-trim s f i) ∙ h)))
+          one true g = absurd (never (sym (sym (λ i. g i && blank_trim s f i) ∙ h)))
           one false g = ap (λ (c : Bool). c && true) e
       go false e (y ∷ t) f h r = ap (λ (u : Bytes). every p (cons_trim x u)) f ∙ ap (λ (c : Bool). c && every p (y ∷ t)) e
 
@@ -213,17 +213,17 @@ module _ (s : Bytes) (n : ℕ) (r : Bool) (e : n ≡ first_not account_byte s) (
   rest : r ≡ blank (drop (first_not account_byte s) s)
   rest = f ∙ ap blank (take_all (length s - n) (drop n s) (omega (arith, length-drop n s))) ∙ ap (λ (k : ℕ). blank (drop k s)) e
 
-  pub account-no : not r ≡ true → false ≡ account s
+  pub account_no : not r ≡ true → false ≡ account s
   unfolding account
-  account-no h =
+  account_no h =
       let w : every account_byte (trim s) ≡ false = front_fails account_byte refl s (sym rest ∙ not-true r h) in
       sym (ap (λ (b : Bool). any is_alnum (trim s) && b && not (all_zeros (trim s))) w ∙ ap (λ (b : Bool). b && not (all_zeros (trim s))) (and-false (any is_alnum (trim s))))
 
-  pub account-yes : not r ≡ false → (a z : Bool) → a ≡ any is_alnum (take (n - 0) s) → z ≡ all_zeros (take (n - 0) s) → (a && not z) ≡ account s
+  pub account_yes : not r ≡ false → (a z : Bool) → a ≡ any is_alnum (take (n - 0) s) → z ≡ all_zeros (take (n - 0) s) → (a && not z) ≡ account s
   unfolding account
-  account-yes h a z ea ez =
+  account_yes h a z ea ez =
       let k : n - 0 ≡ first_not account_byte s = omega (arith, e) in
-      let t : take (n - 0) s ≡ trim s = ap (λ (k : ℕ). take k s) k ∙ sym (front-trim account_byte refl s (sym rest ∙ not-false r h)) in
-      let w : every account_byte (trim s) ≡ true = ap (every account_byte) (front-trim account_byte refl s (sym rest ∙ not-false r h)) ∙ front_passes account_byte refl s in
+      let t : take (n - 0) s ≡ trim s = ap (λ (k : ℕ). take k s) k ∙ sym (front_trim account_byte refl s (sym rest ∙ not-false r h)) in
+      let w : every account_byte (trim s) ≡ true = ap (every account_byte) (front_trim account_byte refl s (sym rest ∙ not-false r h)) ∙ front_passes account_byte refl s in
       (λ i. (ea ∙ ap (any is_alnum) t) i && not ((ez ∙ ap all_zeros t) i))
       ∙ ap (λ (b : Bool). b && not (all_zeros (trim s))) (sym (and-true (any is_alnum (trim s))) ∙ ap (λ (b : Bool). any is_alnum (trim s) && b) (sym w))

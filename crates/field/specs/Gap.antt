@@ -2,7 +2,7 @@
 use Rattle.std.specs.Prelude.{Bool, false, not, ◌&&◌, ◌||◌, [], ◌∷◌}
 use Rattle.paper.specs.Bytes.{Bytes, is_space}
 
--- tied to the paper by `spaced-gap` of field/Spaces
+-- tied to the paper by `spaced_gap` of field/Spaces
 abbrev pub gap : Bytes → Bool
 gap [] = false
 gap (x ∷ []) = false

@@ -13,10 +13,10 @@ use Rattle.paper.specs.Bytes.{Bytes, empty, same, part, before, digits, number, 
 use Rattle.paper.specs.Layouts.{form4868, entry, field}
 use Rattle.paper.specs.Pack.{rows}
 use Rattle.paper.specs.Conditions.{not_above}
-use Rattle.paper.proofs.Laws.{same-eq}
-use Rattle.paper.proofs.Numbers.{before-number, length-written}
+use Rattle.paper.proofs.Laws.{same_eq}
+use Rattle.paper.proofs.Numbers.{before_number, length-written}
 use Rattle.words.specs.Past.{number_if, earlier}
-use Rattle.words.proofs.Digits.{digits-written, number-written}
+use Rattle.words.proofs.Digits.{digits_written, number_written}
 
 pub no_rows : (n w : ℕ) (s : Bytes) → eqb n 0 ≡ empty (rows n w s)
 no_rows zero w s = refl
@@ -25,26 +25,26 @@ no_rows (suc n) w s = ne_eqb (suc n) 0 (λ e. omega arith)
 wide : (from width : ℕ) (r : Bytes) → from + width ≤ length r → length (part from width r) ≡ width
 wide from width r h = omega (arith, length-take width (drop from r), length-drop from r)
 
-pub dsn-wide : (r : Bytes) → length r ≡ 384 → length (field L4868 7 r) ≡ 16
+pub dsn_wide : (r : Bytes) → length r ≡ 384 → length (field L4868 7 r) ≡ 16
 unfolding field entry form4868
-dsn-wide r e = wide 42 16 r (omega arith)
+dsn_wide r e = wide 42 16 r (omega arith)
 
-pub dcn-wide : (r : Bytes) → length r ≡ 384 → length (field L4868 8 r) ≡ 14
+pub dcn_wide : (r : Bytes) → length r ≡ 384 → length (field L4868 8 r) ≡ 14
 unfolding field entry form4868
-dcn-wide r e = wide 58 14 r (omega arith)
+dcn_wide r e = wide 58 14 r (omega arith)
 
 -- nothing was earlier: whatever there is is above
-none-earlier : (f : Bytes) (w past : ℕ) → 1 ≤ length f → past ≡ 0 → false ≡ not_above f (earlier w past)
+none_earlier : (f : Bytes) (w past : ℕ) → 1 ≤ length f → past ≡ 0 → false ≡ not_above f (earlier w past)
 unfolding not_above earlier
-none-earlier [] w past h e = absurd (omega arith)
-none-earlier (x ∷ f) w past h e = rw (eq-eqb past 0 e) (none (digits (x ∷ f)))
+none_earlier [] w past h e = absurd (omega arith)
+none_earlier (x ∷ f) w past h e = rw (eq-eqb past 0 e) (none (digits (x ∷ f)))
   where
     none : (b : Bool) → false ≡ (b && false)
     none true = refl
     none false = refl
 
-not-ltb : (a b : ℕ) → leb a b ≡ not (ltb b a)
-not-ltb a b = go (ltb b a) refl
+not_ltb : (a b : ℕ) → leb a b ≡ not (ltb b a)
+not_ltb a b = go (ltb b a) refl
   where
     go : (q : Bool) → ltb b a ≡ q → leb a b ≡ not q
     go true e = lt-leb a b (ltb-true b a e)
@@ -65,9 +65,9 @@ not_above_number f past h n = rw (ne_eqb past 0 n, take_all 16 f h) (go (digits 
     go : (d : Bool) → digits f ≡ d → (d && leb (number f) ((past - 1) % 10 ^ w)) ≡ (d && not (before t f))
     go false e = refl
     go true e =
-        ap (leb (number f)) (sym (number-written w (past - 1)))
-        ∙ not-ltb (number f) (number t)
-        ∙ ap not (sym (before-number t f (length-written w (past - 1)) (digits-written w (past - 1)) e))
+        ap (leb (number f)) (sym (number_written w (past - 1)))
+        ∙ not_ltb (number f) (number t)
+        ∙ ap not (sym (before_number t f (length-written w (past - 1)) (digits_written w (past - 1)) e))
 
 -- the same by both numbers, of which each is that and 1, or 0 for none
 pub not_above_told : (f : Bytes) (w past : ℕ) → length f ≡ w → 1 ≤ w → w ≤ 16
@@ -85,15 +85,15 @@ not_above_told f w past e l h = go (eqb past 0) refl
     by false = refl
 
     go : (q : Bool) → eqb past 0 ≡ q → (not (eqb (number_if f) 0) && not q && leb (number_if f - 1) ((past - 1) % 10 ^ w)) ≡ not_above f (earlier w past)
-    go true p = ap (λ (b : Bool). b && leb (number_if f - 1) ((past - 1) % 10 ^ w)) (and-false (not (eqb (number_if f) 0))) ∙ none-earlier f w past (omega (arith, e, l)) (eqb-true past 0 p)
+    go true p = ap (λ (b : Bool). b && leb (number_if f - 1) ((past - 1) % 10 ^ w)) (and-false (not (eqb (number_if f) 0))) ∙ none_earlier f w past (omega (arith, e, l)) (eqb-true past 0 p)
     go false p =
         by (digits f) ∙ ap (λ (k : ℕ). digits f && leb (number (take 16 f)) ((past - 1) % 10 ^ k)) (sym e)
         ∙ not_above_number f past (omega (arith, e, h)) (eqb-false past 0 p) ∙ ap (λ (k : ℕ). not_above f (earlier k past)) e
 
 -- of two numbers that are the same both are digits or none is
-pub other-told : (f s : Bytes) → (not (digits s) || not (same f s)) ≡ (not (digits f) || not (same f s))
-other-told f s = by (same f s) refl
+pub other_told : (f s : Bytes) → (not (digits s) || not (same f s)) ≡ (not (digits f) || not (same f s))
+other_told f s = by (same f s) refl
   where
     by : (q : Bool) → same f s ≡ q → (not (digits s) || not q) ≡ (not (digits f) || not q)
-    by true e = ap (λ (x : Bytes). not (digits x) || false) (sym (same-eq f s e))
+    by true e = ap (λ (x : Bytes). not (digits x) || false) (sym (same_eq f s e))
     by false e = or-true (not (digits s)) ∙ sym (or-true (not (digits f)))

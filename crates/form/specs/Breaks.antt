@@ -6,7 +6,7 @@ use Rattle.paper.specs.Pack.{lines_in}
 use Rattle.paper.specs.Conditions.{sight, form_holds}
 use Rattle.words.specs.Past.{earlier}
 
--- tied to the paper by `form-found` of judge/Whole
+-- tied to the paper by `form_found` of judge/Whole
 abbrev pub breaks : Bytes → Bytes → Bytes → Bytes → ℕ → ℕ → Bytes → Facts → ℕ → Bool
 breaks form payer spouse zips dsn dcn date whole =
     λ (rule : ℕ). form_holds (rule / 10000) (rule % 10000) (sight form payer spouse (lines_in 8 zips) (earlier 16 dsn) (earlier 14 dcn) date whole)

@@ -13,14 +13,14 @@ two_digits : (s : Bytes) → part 0 2 (field LKey 100 s) ≡ field LKey 100 s
 unfolding field entry ack_key
 two_digits s = take_all 2 (take 2 (drop 81 s)) (omega (arith, length-take 2 (drop 81 s)))
 
-pub set-length : (s count : Bytes) (n : ℕ) → count ≡ field LKey 100 s → n ≡ number (part 0 2 count) → 120 + 120 * n ≡ set_length s
+pub set_length_lem : (s count : Bytes) (n : ℕ) → count ≡ field LKey 100 s → n ≡ number (part 0 2 count) → 120 + 120 * n ≡ set_length s
 unfolding set_length
-set-length s count n e en = ap (λ (k : ℕ). 120 + 120 * k) (en ∙ (λ i. number (part 0 2 (e i))) ∙ ap number (two_digits s))
+set_length_lem s count n e en = ap (λ (k : ℕ). 120 + 120 * k) (en ∙ (λ i. number (part 0 2 (e i))) ∙ ap number (two_digits s))
 
-pub first-set : (s p : Bytes) (n : ℕ) → n ≡ set_length s → p ≡ part 0 n s → p ≡ first_set s
+pub first_set_lem : (s p : Bytes) (n : ℕ) → n ≡ set_length s → p ≡ part 0 n s → p ≡ first_set s
 unfolding first_set
-first-set s p n e ep = ep ∙ ap (λ (k : ℕ). take k s) e
+first_set_lem s p n e ep = ep ∙ ap (λ (k : ℕ). take k s) e
 
-pub after-set : (s p : Bytes) (n : ℕ) → n ≡ set_length s → p ≡ part n (length s) s → p ≡ after_set s
+pub after_set_lem : (s p : Bytes) (n : ℕ) → n ≡ set_length s → p ≡ part n (length s) s → p ≡ after_set s
 unfolding after_set
-after-set s p n e ep = ep ∙ take_all (length s) (drop n s) (omega (arith, length-drop n s)) ∙ ap (λ (k : ℕ). drop k s) e
+after_set_lem s p n e ep = ep ∙ take_all (length s) (drop n s) (omega (arith, length-drop n s)) ∙ ap (λ (k : ℕ). drop k s) e

@@ -17,17 +17,17 @@ use Rattle.paper.specs.Walk.{kind_of, is, opens, goes_on}
 use Rattle.paper.specs.Conditions.{Sight, View, sight, view, holds, rules_of}
 use Rattle.paper.specs.Judge.{Item, Finding, mark, type_at, occurrence_at, finds_in, finds_from}
 use Rattle.paper.specs.File.{on_auth as onAuthFound}
-use Rattle.paper.proofs.Laws.{never, both, part-take}
-use Rattle.paper.proofs.KindLaws.{kind_fits, kind-length}
+use Rattle.paper.proofs.Laws.{never, both, part_take}
+use Rattle.paper.proofs.KindLaws.{kind_fits, kind_length}
 use Rattle.walk.specs.declared.Head.{Head}
 use Rattle.walk.specs.Heads.{front, left, head_of}
 use Rattle.walk.specs.declared.Extent.{Extent}
 use Rattle.walk.specs.Parts.{own_in, doc_here, sizes, extent_of}
-use Rattle.walk.proofs.Docs.{own-here}
-use Rattle.walk.proofs.Facts.{head-kind, head-part, head-left, head-fits, goes_some, others-here, doc-fits}
+use Rattle.walk.proofs.Docs.{own_here}
+use Rattle.walk.proofs.Facts.{head_kind, head_part, head_left, head_fits, goes_some, others_here, doc_fits}
 use Rattle.rules.specs.declared.Before.{Before}
 use Rattle.rules.specs.Sets.{others_of, chosen}
-use Rattle.rules.proofs.Laws.{chosen-those, bits_none, bits_ones, few-rules, others_are}
+use Rattle.rules.proofs.Laws.{chosen_those, bits_none, bits_ones, few_rules, others_are}
 use Rattle.judge.specs.Kept.{Broke, broke_if, on_auth, total, Held, added}
 use Rattle.judge.specs.Judged.{bank_for, item_in, set_in, broke_from, counts}
 use Rattle.judge.proofs.Kept.{added_nil, added_append, any_append, total_append}
@@ -54,19 +54,19 @@ module _ (banks form payer spouse : Bytes) (whole : Facts) (t : Bytes) (end : �
   abbrev S : Sight
   S = sight form payer spouse [] [] [] [] whole
 
-  by-own : (x : Bool) → goes_on (kind_of (front (drop to t))) ≡ x → own_in (drop to t) ≡ cond x (front (drop to t) ∷ own_in (left (drop to t))) []
-  by-own x e = own-here (drop to t) ∙ ap (λ (y : Bool). cond y (front (drop to t) ∷ own_in (left (drop to t))) []) e
+  by_own : (x : Bool) → goes_on (kind_of (front (drop to t))) ≡ x → own_in (drop to t) ≡ cond x (front (drop to t) ∷ own_in (left (drop to t))) []
+  by_own x e = own_here (drop to t) ∙ ap (λ (y : Bool). cond y (front (drop to t) ∷ own_in (left (drop to t))) []) e
 
   some_bytes : goes_on (kind_of (front (drop to t))) ≡ true → 1 ≤ length (front (drop to t))
   unfolding head_of
-  some_bytes g = (head-fits t to (head_of (drop to t)) refl (goes_some (kind_of (front (drop to t))) g)).0
+  some_bytes g = (head_fits t to (head_of (drop to t)) refl (goes_some (kind_of (front (drop to t))) g)).0
 
   pub ran_end : end ≤ to → found ≡ w
   ran_end h = by (goes_on (kind_of (front (drop to t)))) refl
     where
       by : (x : Bool) → goes_on (kind_of (front (drop to t))) ≡ x → found ≡ w
-      by true e = absurd (omega (arith, i.size, ap sizes (by-own true e), some_bytes e))
-      by false e = sym (added_nil found i.rows i.kept) ∙ ap (λ (l : List Bytes). added found (broke_from S to b.pays b.aths (map (item_in banks) l))) (sym (by-own false e)) ∙ i.same
+      by true e = absurd (omega (arith, i.size, ap sizes (by_own true e), some_bytes e))
+      by false e = sym (added_nil found i.rows i.kept) ∙ ap (λ (l : List Bytes). added found (broke_from S to b.pays b.aths (map (item_in banks) l))) (sym (by_own false e)) ∙ i.same
 
   -- a record is left, and it goes on
   pub ran_goes : to < end → goes_on (kind_of (front (drop to t))) ≡ true
@@ -74,11 +74,11 @@ module _ (banks form payer spouse : Bytes) (whole : Facts) (t : Bytes) (end : �
     where
       by : (x : Bool) → goes_on (kind_of (front (drop to t))) ≡ x → x ≡ true
       by true e = refl
-      by false e = absurd (omega (arith, i.size, ap sizes (by-own false e)))
+      by false e = absurd (omega (arith, i.size, ap sizes (by_own false e)))
 
   module _ (h : Head) (more : to < end) (eh : h ≡ head_of (drop to t)) where
     pub ran_fits : (1 ≤ h.size) × (to + h.size ≤ length t)
-    ran_fits = head-fits t to h eh (goes_some h.kind (ap goes_on (head-kind t to h eh) ∙ ran_goes more))
+    ran_fits = head_fits t to h eh (goes_some h.kind (ap goes_on (head_kind t to h eh) ∙ ran_goes more))
 
     abbrev r : Bytes
     r = front (drop to t)
@@ -86,10 +86,10 @@ module _ (banks form payer spouse : Bytes) (whole : Facts) (t : Bytes) (end : �
     module _ (k : Kind) (bank : Bytes) (set : ℕ) (ek : k ≡ h.kind) (nform : length form ≡ 384) (eb : bank ≡ bank_for banks k (take (to + h.size - to) (drop to t)))
         (es : set ≡ others_of k form (take (to + h.size - to) (drop to t)) payer spouse bank whole b) where
       kind : k ≡ kind_of r
-      kind = ek ∙ head-kind t to h eh
+      kind = ek ∙ head_kind t to h eh
 
       own : take (to + h.size - to) (drop to t) ≡ r
-      own = head-part t to h eh
+      own = head_part t to h eh
 
       set_is : set ≡ set_in (kind_of r) (view S r (bank_for banks (kind_of r) r) b.pays b.aths)
       set_is =
@@ -102,7 +102,7 @@ module _ (banks form payer spouse : Bytes) (whole : Facts) (t : Bytes) (end : �
       unfolding head_of
       ran_on g c eg few low ec =
           let n : h.size ≡ length r = ap (λ (x : Head). x.size) eh in
-          let l : own_in (drop to t) ≡ r ∷ own_in (drop (to + h.size) t) = by-own true (ran_goes more) ∙ ap (λ (x : Bytes). r ∷ own_in x) (sym (head-left t to h eh)) in
+          let l : own_in (drop to t) ≡ r ∷ own_in (drop (to + h.size) t) = by_own true (ran_goes more) ∙ ap (λ (x : Bytes). r ∷ own_in x) (sym (head_left t to h eh)) in
           let rest = map (item_in banks) (own_in (drop (to + h.size) t)) in
           let cp : c.pays ≡ b.pays + bit (is Payment k) = ap (λ (x : Before). x.pays) ec in
           let ca : c.aths ≡ b.aths + bit (is Auth k) = ap (λ (x : Before). x.aths) ec in
@@ -123,33 +123,33 @@ module _ (banks form payer spouse : Bytes) (whole : Facts) (t : Bytes) (end : �
 
 -- of a 4868 document: its first record, and where the others start
 module _ (t : Bytes) (at : ℕ) (doc : Extent) (form : Bytes) (ed : doc ≡ extent_of (drop at t)) (k : is Form (kind_of (doc_here (drop at t)).main) ≡ true) (ef : form ≡ (doc_here (drop at t)).main) where
-  pub form-size : length form ≡ 384
-  form-size = ap length ef ∙ kind-length Form 384 (doc_here (drop at t)).main refl k
+  pub form_size : length form ≡ 384
+  form_size = ap length ef ∙ kind_length Form 384 (doc_here (drop at t)).main refl k
 
   opened : opens (kind_of (doc_here (drop at t)).main) ≡ true
   opened = ap (λ (b : Bool). b || is Unknown (kind_of (doc_here (drop at t)).main)) k
 
   others : (doc_here (drop at t)).others ≡ own_in (drop (at + length form) t)
-  others = others-here t at opened ∙ ap (λ (x : Bytes). own_in (drop (at + length x) t)) (sym ef)
+  others = others_here t at opened ∙ ap (λ (x : Bytes). own_in (drop (at + length x) t)) (sym ef)
 
-  pub form-fits : (at + 384 ≤ length t) × (at + doc.size ≤ length t)
+  pub form_fits : (at + 384 ≤ length t) × (at + doc.size ≤ length t)
   unfolding extent_of
-  form-fits = (omega (arith, form-size, (doc-fits t at opened).0, ap length ef), omega (arith, ap (λ (x : Extent). x.size) ed, (doc-fits t at opened).1))
+  form_fits = (omega (arith, form_size, (doc_fits t at opened).0, ap length ef), omega (arith, ap (λ (x : Extent). x.size) ed, (doc_fits t at opened).1))
 
-  pub form-end : at + doc.size ≡ at + length form + sizes (own_in (drop (at + length form) t))
+  pub form_end : at + doc.size ≡ at + length form + sizes (own_in (drop (at + length form) t))
   unfolding extent_of
-  form-end = omega (arith, ap (λ (x : Extent). x.size) ed, ap length ef, ap sizes others)
+  form_end = omega (arith, ap (λ (x : Extent). x.size) ed, ap length ef, ap sizes others)
 
   pub ran_start : (banks payer spouse : Bytes) (first : Held) → first.rows ≤ 96 → first.kept ≤ 96
       → Ran banks (sight form payer spouse [] [] [] [] doc.facts) t (at + doc.size)
       (added first (broke_from (sight form payer spouse [] [] [] [] doc.facts) (at + length form) 0 0 (map (item_in banks) (doc_here (drop at t)).others))) first (record { pays = 0; aths = 0 }) (at + length form)
   ran_start banks payer spouse first few low = record {
-    within = omega (arith, form-size, form-fits.0);
+    within = omega (arith, form_size, form_fits.0);
     pays = omega arith;
     aths = omega arith;
     rows = few;
     kept = low;
-    size = sym form-end;
+    size = sym form_end;
     same = ap (λ (x : List Bytes). added first (broke_from (sight form payer spouse [] [] [] [] doc.facts) (at + length form) 0 0 (map (item_in banks) x))) (sym others);
   }
 
@@ -182,19 +182,19 @@ module _ (place : ℕ) (k : Kind) (v : View) where
   abbrev rules : List ℕ
   rules = those (holds k v) (rules_of k)
 
-  none-same : eqb (set_in k v) 0 ≡ empty rules
-  none-same = bits_none (holds k v) (rules_of k) (few-rules k)
+  none_same : eqb (set_in k v) 0 ≡ empty rules
+  none_same = bits_none (holds k v) (rules_of k) (few_rules k)
 
-  one-total : total (broke_if place k (set_in k v)) ≡ length (finds_in k v)
+  one_total : total (broke_if place k (set_in k v)) ≡ length (finds_in k v)
   unfolding ones
-  one-total = by (eqb (set_in k v) 0) refl ∙ bits_ones (holds k v) (rules_of k) (few-rules k) ∙ sym (length-map rules (mark k v.own))
+  one_total = by (eqb (set_in k v) 0) refl ∙ bits_ones (holds k v) (rules_of k) (few_rules k) ∙ sym (length-map rules (mark k v.own))
     where
       by : (b : Bool) → eqb (set_in k v) 0 ≡ b → total (cond b [] (record { place = place; kind = k; set = set_in k v } ∷ [])) ≡ ones (set_in k v)
       by true e = ap ones (sym (eqb-true (set_in k v) 0 e))
       by false e = omega arith
 
-  one-auth : any on_auth (broke_if place k (set_in k v)) ≡ any onAuthFound (finds_in k v)
-  one-auth = ap (λ (b : Bool). any on_auth (cond b [] (record { place = place; kind = k; set = set_in k v } ∷ []))) none-same ∙ by rules
+  one_auth : any on_auth (broke_if place k (set_in k v)) ≡ any onAuthFound (finds_in k v)
+  one_auth = ap (λ (b : Bool). any on_auth (cond b [] (record { place = place; kind = k; set = set_in k v } ∷ []))) none_same ∙ by rules
     where
       by : (l : List ℕ) → any on_auth (cond (empty l) [] (record { place = place; kind = k; set = set_in k v } ∷ [])) ≡ any onAuthFound (map (mark k v.own) l)
       by [] = refl
@@ -205,8 +205,8 @@ module _ (place : ℕ) (k : Kind) (v : View) where
           go false e [] = refl
           go false e (y ∷ m) = go false e m ∙ ap (λ (c : Bool). c || any onAuthFound (map (mark k v.own) m)) (sym e)
 
-  one-empty : empty (broke_if place k (set_in k v)) ≡ empty (finds_in k v)
-  one-empty = ap (λ (b : Bool). empty {A = Broke} (cond b [] (record { place = place; kind = k; set = set_in k v } ∷ []))) none-same ∙ by rules
+  one_empty : empty (broke_if place k (set_in k v)) ≡ empty (finds_in k v)
+  one_empty = ap (λ (b : Bool). empty {A = Broke} (cond b [] (record { place = place; kind = k; set = set_in k v } ∷ []))) none_same ∙ by rules
     where
       by : (l : List ℕ) → empty {A = Broke} (cond (empty l) [] (record { place = place; kind = k; set = set_in k v } ∷ [])) ≡ empty (map (mark k v.own) l)
       by [] = refl
@@ -217,36 +217,36 @@ empty_append [] ys = refl
 empty_append (x ∷ xs) ys = refl
 
 module _ (s : Sight) where
-  pub total-found : (place pays aths : ℕ) (l : List Item) → total (broke_from s place pays aths l) ≡ length (finds_from s pays aths l)
-  total-found place pays aths [] = refl
-  total-found place pays aths (i ∷ l) =
+  pub total_found : (place pays aths : ℕ) (l : List Item) → total (broke_from s place pays aths l) ≡ length (finds_from s pays aths l)
+  total_found place pays aths [] = refl
+  total_found place pays aths (i ∷ l) =
       let v = view s i.bytes i.bank pays aths in
       let p = pays + bit (is Payment (kind_of i.bytes)) in
       let a = aths + bit (is Auth (kind_of i.bytes)) in
       omega (
         arith,
         total_append (broke_if place (kind_of i.bytes) (set_in (kind_of i.bytes) v)) (broke_from s (place + length i.bytes) p a l),
-        one-total place (kind_of i.bytes) v,
-        total-found (place + length i.bytes) p a l,
+        one_total place (kind_of i.bytes) v,
+        total_found (place + length i.bytes) p a l,
         length-append (finds_in (kind_of i.bytes) v) (finds_from s p a l),
       )
 
-  pub auth-found : (place pays aths : ℕ) (l : List Item) → any on_auth (broke_from s place pays aths l) ≡ any onAuthFound (finds_from s pays aths l)
-  auth-found place pays aths [] = refl
-  auth-found place pays aths (i ∷ l) =
+  pub auth_found : (place pays aths : ℕ) (l : List Item) → any on_auth (broke_from s place pays aths l) ≡ any onAuthFound (finds_from s pays aths l)
+  auth_found place pays aths [] = refl
+  auth_found place pays aths (i ∷ l) =
       let k = kind_of i.bytes in
       let v = view s i.bytes i.bank pays aths in
       any_append on_auth (broke_if place k (set_in k v)) _
-      ∙ (λ j. one-auth place k v j || auth-found (place + length i.bytes) (pays + bit (is Payment k)) (aths + bit (is Auth k)) l j)
+      ∙ (λ j. one_auth place k v j || auth_found (place + length i.bytes) (pays + bit (is Payment k)) (aths + bit (is Auth k)) l j)
       ∙ sym (any_append onAuthFound (finds_in k v) _)
 
-  pub empty-found : (place pays aths : ℕ) (l : List Item) → empty (broke_from s place pays aths l) ≡ empty (finds_from s pays aths l)
-  empty-found place pays aths [] = refl
-  empty-found place pays aths (i ∷ l) =
+  pub empty_found : (place pays aths : ℕ) (l : List Item) → empty (broke_from s place pays aths l) ≡ empty (finds_from s pays aths l)
+  empty_found place pays aths [] = refl
+  empty_found place pays aths (i ∷ l) =
       let k = kind_of i.bytes in
       let v = view s i.bytes i.bank pays aths in
       empty_append (broke_if place k (set_in k v)) _
-      ∙ (λ j. one-empty place k v j && empty-found (place + length i.bytes) (pays + bit (is Payment k)) (aths + bit (is Auth k)) l j)
+      ∙ (λ j. one_empty place k v j && empty_found (place + length i.bytes) (pays + bit (is Payment k)) (aths + bit (is Auth k)) l j)
       ∙ sym (empty_append (finds_in k v) _)
 
 -- READ IN THE TRANSMISSION
@@ -256,9 +256,9 @@ pub shows : (k : Kind) (n : ℕ) (s : Bytes) (rule : ℕ) → 42 ≤ n → mark 
 unfolding type_at occurrence_at field entry form4868 payment
 shows k n s rule h = λ i. record {
   kind = k;
-  id = sym (part-take n 8 6 s (omega arith)) i;
-  type = cond (is Summary k) (blanks 6) (sym (part-take n 14 6 s (omega arith)) i);
-  occurrence = cond ((is Payment k || is Auth k) && digits (sym (part-take n 35 7 s (omega arith)) i)) (sym (part-take n 35 7 s (omega arith)) i) (bytes "0000001");
+  id = sym (part_take n 8 6 s (omega arith)) i;
+  type = cond (is Summary k) (blanks 6) (sym (part_take n 14 6 s (omega arith)) i);
+  occurrence = cond ((is Payment k || is Auth k) && digits (sym (part_take n 35 7 s (omega arith)) i)) (sym (part_take n 35 7 s (omega arith)) i) (bytes "0000001");
   rule = rule;
 }
 
@@ -276,16 +276,16 @@ module _ (t : Bytes) (place : ℕ) (k : Kind) (v : View) (long : 42 ≤ length v
   marks [] = refl
   marks (x ∷ l) = λ i. (shows k (length v.own) (drop place t) x long ∙ ap (λ (r : Bytes). mark k r x) (sym here)) i ∷ marks l i
 
-  one-read : joined (map (found_of t) (broke_if place k (set_in k v))) ≡ finds_in k v
-  one-read =
-      ap (λ (b : Bool). joined (map (found_of t) (cond b [] (record { place = place; kind = k; set = set_in k v } ∷ [])))) (none-same place k v)
+  one_read : joined (map (found_of t) (broke_if place k (set_in k v))) ≡ finds_in k v
+  one_read =
+      ap (λ (b : Bool). joined (map (found_of t) (cond b [] (record { place = place; kind = k; set = set_in k v } ∷ [])))) (none_same place k v)
       ∙ by (rules place k v) refl
     where
       by : (l : List ℕ) → rules place k v ≡ l → joined (map (found_of t) (cond (empty l) [] (record { place = place; kind = k; set = set_in k v } ∷ []))) ≡ map (mark k v.own) l
       by [] e = refl
       by (x ∷ l) e =
           append-nil (map (mark k (drop place t)) (chosen (set_in k v) (rules_of k)))
-          ∙ ap (map (mark k (drop place t))) (chosen-those (holds k v) (rules_of k) (few-rules k) ∙ e) ∙ marks (x ∷ l)
+          ∙ ap (map (mark k (drop place t))) (chosen_those (holds k v) (rules_of k) (few_rules k) ∙ e) ∙ marks (x ∷ l)
 
 joined_append : {A : Type 0} (xs ys : List (List A)) → joined (xs ++ ys) ≡ joined xs ++ joined ys
 joined_append [] ys = refl
@@ -296,10 +296,10 @@ joined_append (x ∷ xs) ys = ap (λ (l : List _). x ++ l) (joined_append xs ys)
     assoc (y ∷ a) b c = ap (λ (l : List _). y ∷ l) (assoc a b c)
 
 -- the records that break a rule, read in t, give the findings of the paper
-pub rows-found : (t : Bytes) (s : Sight) (item : Bytes → Item) → ((r : Bytes) → (item r).bytes ≡ r) → (place pays aths : ℕ) (rs : List Bytes) → Standing t place rs
+pub rows_found : (t : Bytes) (s : Sight) (item : Bytes → Item) → ((r : Bytes) → (item r).bytes ≡ r) → (place pays aths : ℕ) (rs : List Bytes) → Standing t place rs
     → joined (map (found_of t) (broke_from s place pays aths (map item rs))) ≡ finds_from s pays aths (map item rs)
-rows-found t s item keeps place pays aths [] w = refl
-rows-found t s item keeps place pays aths (r ∷ rs) w =
+rows_found t s item keeps place pays aths [] w = refl
+rows_found t s item keeps place pays aths (r ∷ rs) w =
     let b = (item r).bytes in
     let k = kind_of b in
     let v = view s b (item r).bank pays aths in
@@ -309,4 +309,4 @@ rows-found t s item keeps place pays aths (r ∷ rs) w =
     let a = aths + bit (is Auth k) in
     let next = broke_from s (place + length b) p a (map item rs) in
     ap joined (map-append (found_of t) (broke_if place k (set_in k v)) next) ∙ joined_append (map (found_of t) (broke_if place k (set_in k v))) (map (found_of t) next)
-    ∙ (λ i. one-read t place k v long here i ++ rows-found t s item keeps (place + length b) p a rs (subst (λ (x : Bytes). Standing t (place + length x) rs) (sym (keeps r)) w.2) i)
+    ∙ (λ i. one_read t place k v long here i ++ rows_found t s item keeps (place + length b) p a rs (subst (λ (x : Bytes). Standing t (place + length x) rs) (sym (keeps r)) w.2) i)

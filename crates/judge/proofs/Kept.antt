@@ -78,15 +78,15 @@ added_append f xs ys few =
     }
 
 -- the numbers, and the row where they are held
-pub held-counted : (row x : List (List ℕ)) (l : List Broke) (f : Findings) → held x f ≡ kept_of row l → f ≡ counted l
-held-counted row x l f e = λ i. record { rows = (e i).rows; kept = (e i).kept; ath = (e i).ath }
+pub held_counted : (row x : List (List ℕ)) (l : List Broke) (f : Findings) → held x f ≡ kept_of row l → f ≡ counted l
+held_counted row x l f e = λ i. record { rows = (e i).rows; kept = (e i).kept; ath = (e i).ath }
 
-pub held-listed : (row x : List (List ℕ)) (l : List Broke) (f : Findings) → held x f ≡ kept_of row l → x ≡ listed row l
-held-listed row x l f e = λ i. (e i).list
+pub held_listed : (row x : List (List ℕ)) (l : List Broke) (f : Findings) → held x f ≡ kept_of row l → x ≡ listed row l
+held_listed row x l f e = λ i. (e i).list
 
-pub none-few : (f : Findings) → f ≡ no_findings → (f.rows ≤ 96) × (f.kept ≤ 96)
+pub none_few : (f : Findings) → f ≡ no_findings → (f.rows ≤ 96) × (f.kept ≤ 96)
 unfolding no_findings
-none-few f e = (omega (arith, ap (λ (x : Findings). x.rows) e), omega (arith, ap (λ (x : Findings). x.kept) e))
+none_few f e = (omega (arith, ap (λ (x : Findings). x.rows) e), omega (arith, ap (λ (x : Findings). x.kept) e))
 
 -- they stand at the front of the row
 pub keeps_first : (row : List (List ℕ)) (l : List Broke) → length row ≡ 96 → take (counted l).rows (listed row l) ≡ map triple (take 96 l)

@@ -16,17 +16,17 @@ use Rattle.paper.specs.declared.Letter.{Letter}
 use Rattle.paper.specs.Bytes.{Bytes, any, those, same, member, part, digits, number, written}
 use Rattle.paper.specs.Layouts.{form4868, entry, field}
 use Rattle.paper.specs.Judge.{start, digits_or, is_a}
-use Rattle.paper.proofs.Laws.{next, never, both, same-eq}
+use Rattle.paper.proofs.Laws.{next, never, both, same_eq}
 use Rattle.words.specs.Past.{number_if, identity_of, earlier}
 use Rattle.paper.proofs.Numbers.{length-written}
-use Rattle.words.proofs.Digits.{digits-written, number-written, number-written-whole, written-number, same_number}
+use Rattle.words.proofs.Digits.{digits_written, number_written, number_written_whole, written_number, same_number}
 use Rattle.judge.specs.declared.Past.{Past}
 use Rattle.judge.specs.Seen.{numbers_in, seen_by, no_past, number_after, next_past, next_row}
 
 -- before the first document
-pub starts-empty : (row : List ℕ) → seen_by no_past row ≡ start
+pub starts_empty : (row : List ℕ) → seen_by no_past row ≡ start
 unfolding seen_by earlier
-starts-empty row = refl
+starts_empty row = refl
 
 -- ONE OF THE ACCEPTED NUMBERS
 
@@ -35,18 +35,18 @@ nine_below : (s : Bytes) → length s ≡ 9 → digits s ≡ true → number s <
 nine_below s n d =
     let pos : 0 < 1000000000 = lit< tt in
     let e : number s ≡ number s % 1000000000 =
-    ap number (sym (written-number s d)) ∙ ap (λ (w : ℕ). number (written w (number s))) n ∙ number-written 9 (number s) in
+    ap number (sym (written_number s d)) ∙ ap (λ (w : ℕ). number (written w (number s))) n ∙ number_written 9 (number s) in
     omega (arith, e, mod-lt (number s) pos)
 
 by_digits : (s : Bytes) (x : ℕ) → length s ≡ 9 → x < 1000000000 → same s (written 9 x) ≡ (digits s && eqb (number s) x)
 by_digits s x n h = by (digits s) refl
   where
     by : (b : Bool) → digits s ≡ b → same s (written 9 x) ≡ (b && eqb (number s) x)
-    by true d = same_number s (written 9 x) (n ∙ sym (length-written 9 x)) d (digits-written 9 x) ∙ ap (eqb (number s)) (number-written-whole 9 x h)
+    by true d = same_number s (written 9 x) (n ∙ sym (length-written 9 x)) d (digits_written 9 x) ∙ ap (eqb (number s)) (number_written_whole 9 x h)
     by false d = no (same s (written 9 x)) refl
       where
         no : (c : Bool) → same s (written 9 x) ≡ c → c ≡ false
-        no true e = absurd (never (sym d ∙ ap digits (same-eq s (written 9 x) e) ∙ digits-written 9 x))
+        no true e = absurd (never (sym d ∙ ap digits (same_eq s (written 9 x) e) ∙ digits_written 9 x))
         no false e = refl
 
 pub among : (s : Bytes) (row : List ℕ) → length s ≡ 9 → member s (numbers_in row) ≡ (digits s && any (eqb (number s)) row)
@@ -85,8 +85,8 @@ take-room n l = by (ltb n (length l)) refl
 
 -- the loop that looks for a number among the first n
 module _ (p : ℕ → Bool) (row : List ℕ) (n : ℕ) where
-  pub any-start : any p (take n row) ≡ (false || any p (take (n - 0) (drop 0 row)))
-  any-start = let e : n ≡ n - 0 = omega arith in ap (λ (k : ℕ). any p (take k row)) e
+  pub any_start : any p (take n row) ≡ (false || any p (take (n - 0) (drop 0 row)))
+  any_start = let e : n ≡ n - 0 = omega arith in ap (λ (k : ℕ). any p (take k row)) e
 
   pub any_again : (i : ℕ) (a b : Bool) → i < n → i < length row → any p (take n row) ≡ (a || any p (take (n - i) (drop i row))) → b ≡ p (get_or row i 0)
       → any p (take n row) ≡ ((a || b) || any p (take (n - (i + 1)) (drop (i + 1) row)))
@@ -94,13 +94,13 @@ module _ (p : ℕ → Bool) (row : List ℕ) (n : ℕ) where
       let m : n - i ≡ suc (n - (i + 1)) = omega arith in
       v ∙ (λ j. a || any p (take (m j) (next row i l j))) ∙ ap (λ (c : Bool). a || (c || any p (take (n - (i + 1)) (drop (i + 1) row)))) (sym e) ∙ sym (or_assoc a b (any p (take (n - (i + 1)) (drop (i + 1) row))))
 
-  pub any-done : (i : ℕ) (a : Bool) → n ≤ i → any p (take n row) ≡ (a || any p (take (n - i) (drop i row))) → a ≡ any p (take n row)
-  any-done i a h v = let z : 0 ≡ n - i = omega arith in sym (v ∙ ap (λ (k : ℕ). a || any p (take k (drop i row))) (sym z) ∙ or-false a)
+  pub any_done : (i : ℕ) (a : Bool) → n ≤ i → any p (take n row) ≡ (a || any p (take (n - i) (drop i row))) → a ≡ any p (take n row)
+  any_done i a h v = let z : 0 ≡ n - i = omega arith in sym (v ∙ ap (λ (k : ℕ). a || any p (take k (drop i row))) (sym z) ∙ or-false a)
 
 -- of the numbers of a row, as many as there are
-pub accepted-yes : (ssn n m : ℕ) (row : List ℕ) → (ssn ≡ 0 → ⊥) → m ≡ min (length row) n → (r : Bool) → r ≡ any (eqb (ssn - 1)) (take m row)
+pub accepted_yes : (ssn n m : ℕ) (row : List ℕ) → (ssn ≡ 0 → ⊥) → m ≡ min (length row) n → (r : Bool) → r ≡ any (eqb (ssn - 1)) (take m row)
     → r ≡ (not (eqb ssn 0) && any (eqb (ssn - 1)) (take n row))
-accepted-yes ssn n m row h em r er =
+accepted_yes ssn n m row h em r er =
     er ∙ ap (any (eqb (ssn - 1))) (ap (λ (k : ℕ). take k row) em ∙ take-room n row) ∙ ap (λ (b : Bool). not b && any (eqb (ssn - 1)) (take n row)) (sym (ne_eqb ssn 0 h))
 
 -- the number of nine digits, and none of other bytes
@@ -115,8 +115,8 @@ nine_few s w = omega (arith, nine_number s w, by (digits s) refl)
     by true e = omega (arith, nine_below s w e)
     by false e = omega arith
 
-number-member : (s : Bytes) (row : List ℕ) → length s ≡ 9 → (not (eqb (number_if s) 0) && any (eqb (number_if s - 1)) row) ≡ member s (numbers_in row)
-number-member s row w = ap (λ (n : ℕ). not (eqb n 0) && any (eqb (n - 1)) row) (nine_number s w) ∙ by (digits s) ∙ sym (among s row w)
+number_member : (s : Bytes) (row : List ℕ) → length s ≡ 9 → (not (eqb (number_if s) 0) && any (eqb (number_if s - 1)) row) ≡ member s (numbers_in row)
+number_member s row w = ap (λ (n : ℕ). not (eqb n 0) && any (eqb (n - 1)) row) (nine_number s w) ∙ by (digits s) ∙ sym (among s row w)
   where
     by : (d : Bool) → (not (eqb (cond d (number s + 1) 0) 0) && any (eqb (cond d (number s + 1) 0 - 1)) row) ≡ (d && any (eqb (number s)) row)
     by true =
@@ -126,26 +126,26 @@ number-member s row w = ap (λ (n : ℕ). not (eqb n 0) && any (eqb (n - 1)) row
 
 -- WHAT A FORM LEAVES
 
-part-wide : (from width : ℕ) (r : Bytes) → from + width ≤ length r → length (part from width r) ≡ width
-part-wide from width r h = omega (arith, length-take width (drop from r), length-drop from r)
+part_wide : (from width : ℕ) (r : Bytes) → from + width ≤ length r → length (part from width r) ≡ width
+part_wide from width r h = omega (arith, length-take width (drop from r), length-drop from r)
 
 -- the fields that it leaves
-pub form-wide : (form : Bytes) → length form ≡ 384 → (length (field L4868 7 form) ≡ 16) × (length (field L4868 8 form) ≡ 14) × (length (field L4868 90 form) ≡ 9)
+pub form_wide : (form : Bytes) → length form ≡ 384 → (length (field L4868 7 form) ≡ 16) × (length (field L4868 8 form) ≡ 14) × (length (field L4868 90 form) ≡ 9)
 unfolding field entry form4868
-form-wide form h = (part-wide 42 16 form (omega (arith, h)), part-wide 58 14 form (omega (arith, h)), part-wide 279 9 form (omega (arith, h)))
+form_wide form h = (part_wide 42 16 form (omega (arith, h)), part_wide 58 14 form (omega (arith, h)), part_wide 279 9 form (omega (arith, h)))
 
 -- the primary number of a form among those of a row
 module _ (form : Bytes) (row : List ℕ) (x : Identity) (s : Bytes) (ex : x ≡ identity_of form) (h : length form ≡ 384) (es : s ≡ field L4868 90 form) where
-  pub own-member : (b : Bool) → b ≡ (not (eqb x.ssn 0) && any (eqb (x.ssn - 1)) row) → b ≡ member s (numbers_in row)
+  pub own_member : (b : Bool) → b ≡ (not (eqb x.ssn 0) && any (eqb (x.ssn - 1)) row) → b ≡ member s (numbers_in row)
   unfolding identity_of
-  own-member b e =
-      e ∙ ap (λ (y : Identity). not (eqb y.ssn 0) && any (eqb (y.ssn - 1)) row) ex ∙ number-member (field L4868 90 form) row (form-wide form h).2
+  own_member b e =
+      e ∙ ap (λ (y : Identity). not (eqb y.ssn 0) && any (eqb (y.ssn - 1)) row) ex ∙ number_member (field L4868 90 form) row (form_wide form h).2
       ∙ ap (λ (y : Bytes). member y (numbers_in row)) (sym es)
 
 -- it is below ten digits
-pub own-few : (form : Bytes) (x : Identity) → x ≡ identity_of form → length form ≡ 384 → x.ssn ≤ 1000000000
+pub own_few : (form : Bytes) (x : Identity) → x ≡ identity_of form → length form ≡ 384 → x.ssn ≤ 1000000000
 unfolding identity_of
-own-few form x ex h = omega (arith, ap (λ (y : Identity). y.ssn) ex, nine_few (field L4868 90 form) (form-wide form h).2)
+own_few form x ex h = omega (arith, ap (λ (y : Identity). y.ssn) ex, nine_few (field L4868 90 form) (form_wide form h).2)
 
 -- what the code leaves
 module _ (x : Identity) (l : Letter) (p : Past) (row : List ℕ) (dsn dcn : ℕ) (a : Bool)
@@ -195,7 +195,7 @@ nearest w n f e h = ap (λ (x : Bytes). earlier w (number_after (cond (digits f)
         let m : number f + 1 - 1 ≡ number f = omega arith in
         let z : eqb (number f + 1) 0 ≡ false = ne_eqb (number f + 1) 0 (λ q. omega arith) in
         ap (λ (c : Bool). earlier w (cond c n (number f + 1))) z ∙ ap (λ (c : Bool). cond c [] (written w (number f + 1 - 1))) z
-        ∙ (λ i. written (sym e i) (m i)) ∙ written-number f d
+        ∙ (λ i. written (sym e i) (m i)) ∙ written_number f d
     by false d = refl
 
 those_append : {A : Type 0} (p : A → Bool) (xs ys : List A) → those p (xs ++ ys) ≡ those p xs ++ those p ys
@@ -214,7 +214,7 @@ more_numbers row s n d =
     ap (λ (x : ℕ). numbers_in (row ++ x ∷ [])) m
     ∙ ap (map (written 9)) (those_append (λ (x : ℕ). ltb x 1000000000) row (number s ∷ []) ∙ ap (λ (b : Bool). those (λ (x : ℕ). ltb x 1000000000) row ++ cond b (number s ∷ []) []) (lt-ltb (number s) 1000000000 low))
     ∙ map-append (written 9) (those (λ (x : ℕ). ltb x 1000000000) row) (number s ∷ [])
-    ∙ ap (λ (x : Bytes). numbers_in row ++ x ∷ []) (ap (λ (w : ℕ). written w (number s)) (sym n) ∙ written-number s d)
+    ∙ ap (λ (x : Bytes). numbers_in row ++ x ∷ []) (ap (λ (w : ℕ). written w (number s)) (sym n) ∙ written_number s d)
 
 module _ (form : Bytes) (l : Letter) (p : Past) (row : List ℕ) (room : p.n < length row)
     (n7 : length (field L4868 7 form) ≡ 16) (n8 : length (field L4868 8 form) ≡ 14) (n90 : length (field L4868 90 form) ≡ 9) (good : is_a l ≡ true → digits (field L4868 90 form) ≡ true) where
@@ -253,9 +253,9 @@ module _ (form : Bytes) (l : Letter) (p : Past) (row : List ℕ) (room : p.n < l
   }
 
 -- a form adds its number where it got A, and nothing else
-pub next-few : (x : Identity) (l : Letter) (p : Past) (row : List ℕ) → ((next_past x l p row).n ≤ p.n + cond (is_a l) 1 0) × (length (next_row x l p row) ≡ length row)
+pub next_few : (x : Identity) (l : Letter) (p : Past) (row : List ℕ) → ((next_past x l p row).n ≤ p.n + cond (is_a l) 1 0) × (length (next_row x l p row) ≡ length row)
 unfolding next_past next_row
-next-few x l p row = by (is_a l) (ltb p.n (length row))
+next_few x l p row = by (is_a l) (ltb p.n (length row))
   where
     by : (a b : Bool) → (cond (a && b) (p.n + 1) p.n ≤ p.n + cond a 1 0) × (length (cond (a && b) (set row p.n ((x.ssn - 1) % 4294967296)) row) ≡ length row)
     by true true = (omega arith, length-set row p.n ((x.ssn - 1) % 4294967296))

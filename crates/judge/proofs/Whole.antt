@@ -30,17 +30,17 @@ use Rattle.form.specs.Breaks.{breaks}
 use Rattle.walk.specs.declared.Extent.{Extent}
 use Rattle.walk.specs.Heads.{front}
 use Rattle.walk.specs.Parts.{doc_if, doc_here, own_in, extent_of}
-use Rattle.walk.proofs.Docs.{own-goes}
-use Rattle.paper.proofs.Records.{kind-none}
+use Rattle.walk.proofs.Docs.{own_goes}
+use Rattle.paper.proofs.Records.{kind_none}
 use Rattle.walk.proofs.Laws.{as_part}
-use Rattle.walk.proofs.Facts.{others-here, main-here, doc-fits}
+use Rattle.walk.proofs.Facts.{others_here, main_here, doc_fits}
 use Rattle.judge.specs.declared.Past.{Past}
 use Rattle.judge.specs.declared.Judged.{Judged}
 use Rattle.judge.specs.Kept.{Broke, broke_if, no_findings, Held, held, listed, counted, kept_of, added}
 use Rattle.judge.specs.Seen.{numbers_in, seen_by, next_past, next_row, row_after}
 use Rattle.judge.specs.Judged.{one_line, searched, bank_for, item_in, set_in, broke_from, sight_in, form_broke, form_births, broke_in, judgment_of, judged_of}
-use Rattle.judge.proofs.Kept.{added_none, added_append, none-few, held-counted, held-listed}
-use Rattle.judge.proofs.Found.{others_same, empty-found}
+use Rattle.judge.proofs.Kept.{added_none, added_append, none_few, held_counted, held_listed}
+use Rattle.judge.proofs.Found.{others_same, empty_found}
 
 -- THE LETTER
 
@@ -81,9 +81,9 @@ module _ (t : Bytes) (at : ℕ) (form taxpayers banks states date : Bytes) (p : 
   abbrev S : Sight
   S = sight form payer spouse (lines_in 8 zips) (earlier 16 p.dsn) (earlier 14 p.dcn) date whole
 
-  seen-is : S ≡ sight_in form taxpayers states date p whole
+  seen_is : S ≡ sight_in form taxpayers states date p whole
   unfolding sight_in
-  seen-is =
+  seen_is =
       let x : payer ≡ line_in 33 (field L4868 90 form) taxpayers = e-payer ∙ ap (λ (key : Bytes). line_in 33 key taxpayers) e90 in
       let y : spouse ≡ line_in 33 (field L4868 100 form) taxpayers = e-spouse ∙ ap (λ (key : Bytes). line_in 33 key taxpayers) e100 in
       let z : zips ≡ rows_in 8 (field L4868 60 form) states = e-zips ∙ ap (λ (key : Bytes). rows_in 8 key states) e60 in
@@ -94,33 +94,33 @@ module _ (t : Bytes) (at : ℕ) (form taxpayers banks states date : Bytes) (p : 
 
   go_on : every (λ (x : Bytes). goes_on (kind_of x)) d.others ≡ true
   go_on =
-      ap (every (λ (x : Bytes). goes_on (kind_of x))) (others-here t at (ap (λ (c : Bool). c || is Unknown (kind_of d.main)) k))
-      ∙ own-goes (drop (at + length d.main) t)
+      ap (every (λ (x : Bytes). goes_on (kind_of x))) (others_here t at (ap (λ (c : Bool). c || is Unknown (kind_of d.main)) k))
+      ∙ own_goes (drop (at + length d.main) t)
 
   kind : kind_of d.main ≡ Form
   kind = is_eq Form (kind_of d.main) k
 
-  pub form-found : r ≡ kept_of row (form_broke at (doc_here (drop at t)) taxpayers banks states date p whole)
-  form-found =
+  pub form_found : r ≡ kept_of row (form_broke at (doc_here (drop at t)) taxpayers banks states date p whole)
+  form_found =
       let o = broke_from S (at + length form) 0 0 (map (item_in banks) d.others) in
       let h = held row no_findings in
       e-others
       ∙ (λ i. added ((e-first ∙ (λ j. added (held row (e-none j)) (broke_if at Form (set_is j)))) i) (others_same banks form payer spouse (lines_in 8 zips) (earlier 16 p.dsn) (earlier 14 p.dcn) date whole d.others (at + length form) 0 0 go_on i))
-      ∙ added_append h (broke_if at Form (set_in Form (view S form [] 0 0))) o (none-few no_findings refl).0
+      ∙ added_append h (broke_if at Form (set_in Form (view S form [] 0 0))) o (none_few no_findings refl).0
       ∙ added_none row (broke_if at Form (set_in Form (view S form [] 0 0)) ++ o)
-      ∙ (λ i. kept_of row (broke_if at Form (set_in Form (view (seen-is i) form [] 0 0)) ++ broke_from (seen-is i) (at + length form) 0 0 (map (item_in banks) d.others)))
+      ∙ (λ i. kept_of row (broke_if at Form (set_in Form (view (seen_is i) form [] 0 0)) ++ broke_from (seen_is i) (at + length form) 0 0 (map (item_in banks) d.others)))
       ∙ (λ i. kept_of row (broke_if at Form (set_in Form (view (sight_in (ef i) taxpayers states date p whole) (ef i) [] 0 0)) ++ broke_from (sight_in (ef i) taxpayers states date p whole) (at + length (ef i)) 0 0 (map (item_in banks) d.others)))
       ∙ (λ i. kept_of row (broke_if at (sym kind i) (set_in (sym kind i) (view (sight_in d.main taxpayers states date p whole) d.main [] 0 0))
       ++ broke_from (sight_in d.main taxpayers states date p whole) (at + length d.main) (0 + bit (is Payment (sym kind i))) (0 + bit (is Auth (sym kind i))) (map (item_in banks) d.others)))
 
 -- field 0117 of it
-pub births-found : (t : Bytes) (at : ℕ) (form taxpayers : Bytes) (whole : Facts) → is Form (kind_of (doc_here (drop at t)).main) ≡ true → form ≡ (doc_here (drop at t)).main
+pub births_found : (t : Bytes) (at : ℕ) (form taxpayers : Bytes) (whole : Facts) → is Form (kind_of (doc_here (drop at t)).main) ≡ true → form ≡ (doc_here (drop at t)).main
     → (f90 f100 payer spouse : Bytes) (v : ℕ) → f90 ≡ field L4868 90 form → payer ≡ line_in 33 f90 taxpayers → f100 ≡ field L4868 100 form → spouse ≡ line_in 33 f100 taxpayers
     → v ≡ birth_byte (first_auth (own_in (drop (at + length form) t))) payer spouse whole.pays → v ≡ form_births (doc_here (drop at t)) taxpayers whole
-births-found t at form taxpayers whole k ef f90 f100 payer spouse v e90 e-payer e100 e-spouse ev =
+births_found t at form taxpayers whole k ef f90 f100 payer spouse v e90 e-payer e100 e-spouse ev =
     let d = doc_here (drop at t) in
     let o : own_in (drop (at + length form) t) ≡ d.others =
-    ap (λ (m : Bytes). own_in (drop (at + length m) t)) ef ∙ sym (others-here t at (ap (λ (c : Bool). c || is Unknown (kind_of d.main)) k)) in
+    ap (λ (m : Bytes). own_in (drop (at + length m) t)) ef ∙ sym (others_here t at (ap (λ (c : Bool). c || is Unknown (kind_of d.main)) k)) in
     let x : payer ≡ line_in 33 (ssn_of d) taxpayers = e-payer ∙ ap (λ (key : Bytes). line_in 33 key taxpayers) (e90 ∙ ap (field L4868 90) ef) in
     let y : spouse ≡ line_in 33 (spouse_of d) taxpayers = e-spouse ∙ ap (λ (key : Bytes). line_in 33 key taxpayers) (e100 ∙ ap (field L4868 100) ef) in
     ev ∙ (λ i. birth_byte (first_auth (o i)) (x i) (y i) whole.pays)
@@ -136,25 +136,25 @@ module _ (taxpayers banks filed states : Bytes) where
   unfolding searched
   searched_taxpayer key = first_one (line_in 33 key taxpayers)
 
-  pub searched-bank : (key : Bytes) → first_or (searched taxpayers banks filed states 2 key) ≡ line_in 10 key banks
+  pub searched_bank : (key : Bytes) → first_or (searched taxpayers banks filed states 2 key) ≡ line_in 10 key banks
   unfolding searched
-  searched-bank key = first_one (line_in 10 key banks)
+  searched_bank key = first_one (line_in 10 key banks)
 
-  pub searched-filed : (key : Bytes) → first_or (searched taxpayers banks filed states 3 key) ≡ line_in 9 key filed
+  pub searched_filed : (key : Bytes) → first_or (searched taxpayers banks filed states 3 key) ≡ line_in 9 key filed
   unfolding searched
-  searched-filed key = first_one (line_in 9 key filed)
+  searched_filed key = first_one (line_in 9 key filed)
 
-  pub searched-states : (key : Bytes) → searched taxpayers banks filed states 4 key ≡ lines_in 8 (rows_in 8 key states)
+  pub searched_states : (key : Bytes) → searched taxpayers banks filed states 4 key ≡ lines_in 8 (rows_in 8 key states)
   unfolding searched
-  searched-states key = refl
+  searched_states key = refl
 
-  item-is : (r : Bytes) → item_in banks r ≡ item_of (searched taxpayers banks filed states) r
+  item_is : (r : Bytes) → item_in banks r ≡ item_of (searched taxpayers banks filed states) r
   unfolding bank_for
-  item-is r = λ i. record { bytes = r; bank = cond (is Payment (kind_of r)) (sym (searched-bank (field LPayment 30 r)) i) [] }
+  item_is r = λ i. record { bytes = r; bank = cond (is Payment (kind_of r)) (sym (searched_bank (field LPayment 30 r)) i) [] }
 
   items_are : (rs : List Bytes) → map (item_in banks) rs ≡ map (item_of (searched taxpayers banks filed states)) rs
   items_are [] = refl
-  items_are (r ∷ rs) = λ i. item-is r i ∷ items_are rs i
+  items_are (r ∷ rs) = λ i. item_is r i ∷ items_are rs i
 
 -- what the pack says of d where its form is known, or not
 abbrev pub case_if : Bool → Lines → Doc → Case
@@ -172,9 +172,9 @@ asked_if b L d h = ap (λ (x : Bool). case_if x L d) h
 
 -- THE JUDGMENT
 
-empty-eqb : (l : List Broke) → eqb (min 96 (length l)) 0 ≡ empty l
-empty-eqb [] = refl
-empty-eqb (x ∷ l) = ne_eqb (min 96 (suc (length l))) 0 (λ e. omega arith)
+empty_eqb : (l : List Broke) → eqb (min 96 (length l)) 0 ≡ empty l
+empty_eqb [] = refl
+empty_eqb (x ∷ l) = ne_eqb (min 96 (suc (length l))) 0 (λ e. omega arith)
 
 -- of a document in its turn: each result, and what is known of it
 module _ (t date : Bytes) (at : ℕ) (p : Past) (row : List ℕ) (k : Bool) (L : Lines) (e : Extent) (ee : e ≡ extent_of (drop at t)) (Known-is : known (doc_here (drop at t)) ≡ k) where
@@ -191,18 +191,18 @@ module _ (t date : Bytes) (at : ℕ) (p : Past) (row : List ℕ) (k : Bool) (L :
   turn_is = ap (λ (c : Case). turn date (seen_by p row) c) (sym (asked_if k L doc Known-is))
 
   module _ (found : Findings) (own : Identity) (letter : Letter) (births : ℕ) (next : Past) (row' : List ℕ) (list x : List (List ℕ))
-      (e-held : held x found ≡ kept_of list (broke_in at T)) (e-own : own ≡ cond k (identity_of doc.main) no_identity) (e-letter : letter ≡ letter_of T) (e-births : births ≡ births_of T)
+      (e_held : held x found ≡ kept_of list (broke_in at T)) (e-own : own ≡ cond k (identity_of doc.main) no_identity) (e-letter : letter ≡ letter_of T) (e-births : births ≡ births_of T)
       (e-past : next ≡ cond k (next_past (identity_of doc.main) letter p row) p) (e-row : row' ≡ cond k (next_row (identity_of doc.main) letter p row) row) where
-    pub judged-is : ◌≡◌ {A = Judged} (record { judgment = record { size = e.size; letter = letter; known = k; identity = own; found = found; facts = e.facts; births = births }; past = next }) (judged_of at U p row)
+    pub judged_is : ◌≡◌ {A = Judged} (record { judgment = record { size = e.size; letter = letter; known = k; identity = own; found = found; facts = e.facts; births = births }; past = next }) (judged_of at U p row)
     unfolding judgment_of extent_of
-    judged-is =
+    judged_is =
         (λ i. record {
           judgment = record {
             size = (ee i).size;
             letter = e-letter i;
             known = sym Known-is i;
             identity = (e-own ∙ ap (λ (b : Bool). cond b (identity_of doc.main) no_identity) (sym Known-is)) i;
-            found = held-counted list x (broke_in at T) found e-held i;
+            found = held_counted list x (broke_in at T) found e_held i;
             facts = (ee i).facts;
             births = e-births i;
           };
@@ -213,13 +213,13 @@ module _ (t date : Bytes) (at : ℕ) (p : Past) (row : List ℕ) (k : Bool) (L :
     pub row_is : row' ≡ row_after U p row
     row_is = e-row ∙ (λ j. cond (sym Known-is j) (next_row (identity_of doc.main) (e-letter j) p row) row) ∙ ap (λ (u : Turn). row_after u p row) turn_is
 
-    pub list-is : x ≡ listed list (broke_in at U)
-    list-is = held-listed list x (broke_in at T) found e-held ∙ ap (λ (u : Turn). listed list (broke_in at u)) turn_is
+    pub list_is : x ≡ listed list (broke_in at U)
+    list_is = held_listed list x (broke_in at T) found e_held ∙ ap (λ (u : Turn). listed list (broke_in at u)) turn_is
 
   -- no finding, no record that breaks a rule
-  pub clean-same : (found : Findings) → found ≡ counted (broke_in at T) → eqb found.rows 0 ≡ empty (findings T)
+  pub clean_same : (found : Findings) → found ≡ counted (broke_in at T) → eqb found.rows 0 ≡ empty (findings T)
   unfolding counted broke_in findings
-  clean-same found q = ap (λ (f : Findings). eqb f.rows 0) q ∙ empty-eqb (broke_in at T) ∙ empty-found (sight_of T) at 0 0 T.subject.items
+  clean_same found q = ap (λ (f : Findings). eqb f.rows 0) q ∙ empty_eqb (broke_in at T) ∙ empty_found (sight_of T) at 0 0 T.subject.items
 
 -- of a 4868 document
 module _ (t taxpayers banks filed states date : Bytes) (at : ℕ) (p : Past) (row : List ℕ) (e : Extent) (ee : e ≡ extent_of (drop at t)) (k : known (doc_here (drop at t)) ≡ true) where
@@ -229,16 +229,16 @@ module _ (t taxpayers banks filed states date : Bytes) (at : ℕ) (p : Past) (ro
   abbrev K : Turn
   K = turn date (seen_by p row) (case_if true Z (doc_here (drop at t)))
 
-  sight-is : sight_in (doc_here (drop at t)).main taxpayers states date p e.facts ≡ sight_of K
+  sight_is : sight_in (doc_here (drop at t)).main taxpayers states date p e.facts ≡ sight_of K
   unfolding sight_in seen_by extent_of
-  sight-is =
+  sight_is =
       let d = doc_here (drop at t) in
       λ i. sight d.main (sym (searched_taxpayer taxpayers banks filed states (ssn_of d)) i) (sym (searched_taxpayer taxpayers banks filed states (spouse_of d)) i)
-      (sym (searched-states taxpayers banks filed states (state_of d)) i) (earlier 16 p.dsn) (earlier 14 p.dcn) date (ee i).facts
+      (sym (searched_states taxpayers banks filed states (state_of d)) i) (earlier 16 p.dsn) (earlier 14 p.dcn) date (ee i).facts
 
   form_broke_lem : form_broke at (doc_here (drop at t)) taxpayers banks states date p e.facts ≡ broke_in at K
   unfolding broke_in
-  form_broke_lem = λ i. broke_from (sight-is i) at 0 0 (record { bytes = (doc_here (drop at t)).main; bank = [] } ∷ items_are taxpayers banks filed states (doc_here (drop at t)).others i)
+  form_broke_lem = λ i. broke_from (sight_is i) at 0 0 (record { bytes = (doc_here (drop at t)).main; bank = [] } ∷ items_are taxpayers banks filed states (doc_here (drop at t)).others i)
 
   births_are : (v : ℕ) → v ≡ form_births (doc_here (drop at t)) taxpayers e.facts → v ≡ births_of K
   unfolding births_of extent_of
@@ -251,32 +251,32 @@ module _ (t taxpayers banks filed states date : Bytes) (at : ℕ) (p : Past) (ro
       (e-own : own ≡ identity_of form) (e-found : held x found ≡ kept_of list (form_broke at (doc_here (drop at t)) taxpayers banks states date p e.facts))
       (e-letter : letter ≡ letter_by (eqb found.rows 0) (not (empty (line_in 9 (field L4868 90 form) filed)) || member (field L4868 90 form) (numbers_in (take p.n row))))
       (e-births : births ≡ form_births (doc_here (drop at t)) taxpayers e.facts) (e-past : next ≡ next_past own letter p row) (e-row : row' ≡ next_row own letter p row) where
-    e-held : held x found ≡ kept_of list (broke_in at K)
-    e-held = e-found ∙ ap (kept_of list) form_broke_lem
+    e_held : held x found ≡ kept_of list (broke_in at K)
+    e_held = e-found ∙ ap (kept_of list) form_broke_lem
 
     letter_is : letter ≡ letter_of K
     unfolding letter_of twice seen_by
     letter_is =
         e-letter
-        ∙ (λ i. letter_by (clean-same t date at p row true Z e ee k found (held-counted list x (broke_in at K) found e-held) i) (not (empty (line_in 9 (field L4868 90 (ef i)) filed)) || member (field L4868 90 (ef i)) (numbers_in (take p.n row))))
-        ∙ (λ i. letter_by (empty (findings K)) (not (empty (sym (searched-filed taxpayers banks filed states (ssn_of (doc_here (drop at t)))) i)) || member (ssn_of (doc_here (drop at t))) (numbers_in (take p.n row))))
+        ∙ (λ i. letter_by (clean_same t date at p row true Z e ee k found (held_counted list x (broke_in at K) found e_held) i) (not (empty (line_in 9 (field L4868 90 (ef i)) filed)) || member (field L4868 90 (ef i)) (numbers_in (take p.n row))))
+        ∙ (λ i. letter_by (empty (findings K)) (not (empty (sym (searched_filed taxpayers banks filed states (ssn_of (doc_here (drop at t)))) i)) || member (ssn_of (doc_here (drop at t))) (numbers_in (take p.n row))))
 
-    pub form-judged : (record { judgment = record { size = e.size; letter = letter; known = true; identity = own; found = found; facts = e.facts; births = births }; past = next } ≡ judged_of at (turn date (seen_by p row) (asked (searched taxpayers banks filed states) (doc_here (drop at t)))) p row)
+    pub form_judged : (record { judgment = record { size = e.size; letter = letter; known = true; identity = own; found = found; facts = e.facts; births = births }; past = next } ≡ judged_of at (turn date (seen_by p row) (asked (searched taxpayers banks filed states) (doc_here (drop at t)))) p row)
         × (row' ≡ row_after (turn date (seen_by p row) (asked (searched taxpayers banks filed states) (doc_here (drop at t)))) p row)
         × (x ≡ listed list (broke_in at (turn date (seen_by p row) (asked (searched taxpayers banks filed states) (doc_here (drop at t))))))
-    form-judged =
+    form_judged =
         let o : own ≡ identity_of (doc_here (drop at t)).main = e-own ∙ ap identity_of ef in
         let q : next ≡ next_past (identity_of (doc_here (drop at t)).main) letter p row = e-past ∙ ap (λ (y : Identity). next_past y letter p row) o in
         let w : row' ≡ next_row (identity_of (doc_here (drop at t)).main) letter p row = e-row ∙ ap (λ (y : Identity). next_row y letter p row) o in (
-          judged-is t date at p row true Z e ee k found own letter births next row' list x e-held o letter_is (births_are births e-births) q w,
-          row_is t date at p row true Z e ee k found own letter births next row' list x e-held o letter_is (births_are births e-births) q w,
-          list-is t date at p row true Z e ee k found own letter births next row' list x e-held o letter_is (births_are births e-births) q w,
+          judged_is t date at p row true Z e ee k found own letter births next row' list x e_held o letter_is (births_are births e-births) q w,
+          row_is t date at p row true Z e ee k found own letter births next row' list x e_held o letter_is (births_are births e-births) q w,
+          list_is t date at p row true Z e ee k found own letter births next row' list x e_held o letter_is (births_are births e-births) q w,
         )
 
 -- of any other: nothing is looked up, and nothing but the first record is judged
-member-none : (row : List ℕ) → member [] (numbers_in row) ≡ false
-member-none [] = refl
-member-none (x ∷ row) = by (ltb x 1000000000) (member-none row)
+member_none : (row : List ℕ) → member [] (numbers_in row) ≡ false
+member_none [] = refl
+member_none (x ∷ row) = by (ltb x 1000000000) (member_none row)
   where
     by : (b : Bool) → member [] (numbers_in row) ≡ false → member [] (map (written 9) (cond b (x ∷ those (λ (y : ℕ). ltb y 1000000000) row) (those (λ (y : ℕ). ltb y 1000000000) row))) ≡ false
     by true e = e
@@ -296,14 +296,14 @@ one_set v Recap o f = refl
 one_set v Stray o f = refl
 
 module _ (t : Bytes) (at : ℕ) (v : View) where
-  other-set : known (doc_here (drop at t)) ≡ false → set_in (kind_of (doc_here (drop at t)).main) v ≡ bit (is Unknown (kind_of (doc_here (drop at t)).main))
+  other_set : known (doc_here (drop at t)) ≡ false → set_in (kind_of (doc_here (drop at t)).main) v ≡ bit (is Unknown (kind_of (doc_here (drop at t)).main))
   unfolding doc_here
-  other-set h = by (opens (kind_of (front (drop at t)))) refl h
+  other_set h = by (opens (kind_of (front (drop at t)))) refl h
     where
       by : (b : Bool) → opens (kind_of (front (drop at t))) ≡ b → is Form (kind_of (doc_if b (drop at t)).main) ≡ false
           → set_in (kind_of (doc_if b (drop at t)).main) v ≡ bit (is Unknown (kind_of (doc_if b (drop at t)).main))
       by true o f = one_set v (kind_of (front (drop at t))) o f
-      by false o f = ap (λ (k : Kind). set_in k v) kind-none ∙ ap (λ (k : Kind). bit (is Unknown k)) (sym kind-none)
+      by false o f = ap (λ (k : Kind). set_in k v) kind_none ∙ ap (λ (k : Kind). bit (is Unknown k)) (sym kind_none)
 
 -- where no rule of it is broken, it has no byte
 no_bytes : (t : Bytes) (at : ℕ) → known (doc_here (drop at t)) ≡ false → is Unknown (kind_of (doc_here (drop at t)).main) ≡ false → (doc_here (drop at t)).main ≡ []
@@ -326,19 +326,19 @@ module _ (t date : Bytes) (at : ℕ) (p : Past) (row : List ℕ) (L : Lines) (e 
   broke_is : broke_if at kind (bit (is Unknown kind)) ≡ broke_in at N
   unfolding broke_in
   broke_is =
-      (λ i. broke_if at (e-kind i) (bit (is Unknown (e-kind i)))) ∙ ap (broke_if at (kind_of (doc_here (drop at t)).main)) (sym (other-set t at first k))
+      (λ i. broke_if at (e-kind i) (bit (is Unknown (e-kind i)))) ∙ ap (broke_if at (kind_of (doc_here (drop at t)).main)) (sym (other_set t at first k))
       ∙ sym (append-nil (broke_if at (kind_of (doc_here (drop at t)).main) (set_in (kind_of (doc_here (drop at t)).main) first)))
 
-  other-held : held x found ≡ kept_of list (broke_in at N)
-  other-held = e-found ∙ ap (kept_of list) broke_is
+  other_held : held x found ≡ kept_of list (broke_in at N)
+  other_held = e-found ∙ ap (kept_of list) broke_is
 
   clean : eqb found.rows 0 ≡ empty (findings N)
-  clean = clean-same t date at p row false L e ee k found (held-counted list x (broke_in at N) found other-held)
+  clean = clean_same t date at p row false L e ee k found (held_counted list x (broke_in at N) found other_held)
 
   -- an unknown form has one
-  rows-some : is Unknown (kind_of (doc_here (drop at t)).main) ≡ true → eqb found.rows 0 ≡ false
+  rows_some : is Unknown (kind_of (doc_here (drop at t)).main) ≡ true → eqb found.rows 0 ≡ false
   unfolding counted
-  rows-some u =
+  rows_some u =
       ap (λ (h : Held). eqb h.rows 0) e-found ∙ ap (λ (b : Bool). eqb (min 96 (length {A = Broke} (cond (eqb (bit b) 0) [] (record { place = at; kind = kind; set = bit b } ∷ [])))) 0) (ap (is Unknown) e-kind ∙ u)
 
   no_field : field L4868 90 [] ≡ []
@@ -350,24 +350,24 @@ module _ (t date : Bytes) (at : ℕ) (p : Past) (row : List ℕ) (L : Lines) (e 
   other_letter = e-letter ∙ ap (λ (b : Bool). letter_by b false) clean ∙ by (is Unknown (kind_of (doc_here (drop at t)).main)) refl
     where
       by : (b : Bool) → is Unknown (kind_of (doc_here (drop at t)).main) ≡ b → letter_by (empty (findings N)) false ≡ letter_by (empty (findings N)) (false || member (ssn_of (doc_here (drop at t))) (numbers_in (take p.n row)))
-      by true u = some (empty (findings N)) (sym clean ∙ rows-some u)
+      by true u = some (empty (findings N)) (sym clean ∙ rows_some u)
         where
           some : (c : Bool) → c ≡ false → letter_by c false ≡ letter_by c (false || member (ssn_of (doc_here (drop at t))) (numbers_in (take p.n row)))
           some true z = absurd (never (sym z))
           some false z = refl
-      by false u = ap (letter_by (empty (findings N))) (sym (ap (λ (m : Bytes). member (field L4868 90 m) (numbers_in (take p.n row))) (no_bytes t at k u) ∙ ap (λ (m : Bytes). member m (numbers_in (take p.n row))) no_field ∙ member-none (take p.n row)))
+      by false u = ap (letter_by (empty (findings N))) (sym (ap (λ (m : Bytes). member (field L4868 90 m) (numbers_in (take p.n row))) (no_bytes t at k u) ∙ ap (λ (m : Bytes). member m (numbers_in (take p.n row))) no_field ∙ member_none (take p.n row)))
 
   -- without an authentication no birth date is compared
-  no-births : 48 ≡ births_of N
+  no_births : 48 ≡ births_of N
   unfolding births_of birth_byte compares_births field entry authentication
-  no-births = ap (λ (b : Bool). birth_byte (first_auth (cond b (doc_here (drop at t)).others [])) [] [] (sight_of N).whole.pays) (sym k)
+  no_births = ap (λ (b : Bool). birth_byte (first_auth (cond b (doc_here (drop at t)).others [])) [] [] (sight_of N).whole.pays) (sym k)
 
-  pub other-judged : (record { judgment = record { size = e.size; letter = letter; known = false; identity = no_identity; found = found; facts = e.facts; births = 48 }; past = p } ≡ judged_of at (turn date (seen_by p row) (asked L (doc_here (drop at t)))) p row)
+  pub other_judged : (record { judgment = record { size = e.size; letter = letter; known = false; identity = no_identity; found = found; facts = e.facts; births = 48 }; past = p } ≡ judged_of at (turn date (seen_by p row) (asked L (doc_here (drop at t)))) p row)
       × (row ≡ row_after (turn date (seen_by p row) (asked L (doc_here (drop at t)))) p row) × (x ≡ listed list (broke_in at (turn date (seen_by p row) (asked L (doc_here (drop at t))))))
-  other-judged = (
-    judged-is t date at p row false L e ee k found no_identity letter 48 p row list x other-held refl other_letter no-births refl refl,
-    row_is t date at p row false L e ee k found no_identity letter 48 p row list x other-held refl other_letter no-births refl refl,
-    list-is t date at p row false L e ee k found no_identity letter 48 p row list x other-held refl other_letter no-births refl refl,
+  other_judged = (
+    judged_is t date at p row false L e ee k found no_identity letter 48 p row list x other_held refl other_letter no_births refl refl,
+    row_is t date at p row false L e ee k found no_identity letter 48 p row list x other_held refl other_letter no_births refl refl,
+    list_is t date at p row false L e ee k found no_identity letter 48 p row list x other_held refl other_letter no_births refl refl,
   )
 
 -- WHAT THE CODE KNOWS OF THE FIRST RECORD
@@ -385,4 +385,4 @@ module _ (t : Bytes) (at : ℕ) (e : Extent) (ee : e ≡ extent_of (drop at t)) 
   first_part k =
       let o : opens (kind_of (doc_here (drop at t)).main) ≡ true = ap (λ (c : Bool). c || is Unknown (kind_of (doc_here (drop at t)).main)) k in
       let n : e.first.size ≡ length (doc_here (drop at t)).main = ap (λ (x : Extent). x.first.size) ee in
-      (omega (arith, n, (doc-fits t at o).0), as_part t at e.first.size ∙ ap (λ (m : ℕ). take m (drop at t)) n ∙ main-here t at o)
+      (omega (arith, n, (doc_fits t at o).0), as_part t at e.first.size ∙ ap (λ (m : ℕ). take m (drop at t)) n ∙ main_here t at o)

@@ -75,7 +75,7 @@ abbrev pub counts : Before → Kind → Before
 counts b k = record { pays = b.pays + bit (is Payment k); aths = b.aths + bit (is Auth k) }
 
 -- of a document at a place
--- tied to the paper by `rows-found` of judge/Found
+-- tied to the paper by `rows_found` of judge/Found
 unfoldable pub broke_in : ℕ → Turn → List Broke
 broke_in at t = broke_from (sight_of t) at 0 0 t.subject.items
 
@@ -83,7 +83,7 @@ broke_in at t = broke_from (sight_of t) at 0 0 t.subject.items
 abbrev pub identity_in : Doc → Identity
 identity_in d = cond (known d) (identity_of d.main) no_identity
 
--- tied to the paper by `total-found`, `auth-found` and `empty-found` of judge/Found
+-- tied to the paper by `total_found`, `auth_found` and `empty_found` of judge/Found
 unfoldable pub judgment_of : ℕ → Turn → Judgment
 judgment_of at t = record {
   size = sizes (t.subject.doc.main ∷ t.subject.doc.others);
@@ -96,6 +96,6 @@ judgment_of at t = record {
 }
 
 -- and what it leaves
--- tied to the paper by `total-found`, `auth-found` and `empty-found` of judge/Found
+-- tied to the paper by `total_found`, `auth_found` and `empty_found` of judge/Found
 abbrev pub judged_of : ℕ → Turn → Past → List ℕ → Judged
 judged_of at t p row = record { judgment = judgment_of at t; past = past_after t p row }

@@ -44,12 +44,12 @@ abbrev pub held : List (List ℕ) → Findings → Held
 held row f = record { list = row; rows = f.rows; kept = f.kept; ath = f.ath }
 
 -- the first 96 at the front of the row
--- tied to the paper by `rows-found` of judge/Found
+-- tied to the paper by `rows_found` of judge/Found
 unfoldable pub listed : List (List ℕ) → List Broke → List (List ℕ)
 listed row l = sets row 0 (map triple (take 96 l))
 
 -- their number, that of the findings to be written, and whether an authentication has one
--- tied to the paper by `total-found`, `auth-found` and `empty-found` of judge/Found
+-- tied to the paper by `total_found`, `auth_found` and `empty_found` of judge/Found
 unfoldable pub counted : List Broke → Findings
 counted l = record { rows = min 96 (length l); kept = min 96 (total l); ath = any on_auth l }
 

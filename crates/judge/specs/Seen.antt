@@ -11,11 +11,11 @@ use Rattle.judge.specs.declared.Past.{Past}
 abbrev pub numbers_in : List ℕ → List Bytes
 numbers_in row = map (written 9) (those (λ (x : ℕ). ltb x 1000000000) row)
 
--- tied to the paper by `leaves` and `starts-empty` of judge/Seen
+-- tied to the paper by `leaves` and `starts_empty` of judge/Seen
 unfoldable pub seen_by : Past → List ℕ → Before
 seen_by p row = record { dsn = earlier 16 p.dsn; dcn = earlier 14 p.dcn; accepted = numbers_in (take p.n row) }
 
--- tied to the paper by `starts-empty` of judge/Seen
+-- tied to the paper by `starts_empty` of judge/Seen
 abbrev pub no_past : Past
 no_past = record { dsn = 0; dcn = 0; n = 0 }
 

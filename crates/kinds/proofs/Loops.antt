@@ -22,13 +22,13 @@ module _ (p : ℕ → Bool) (s : List ℕ) (i : ℕ) where
         here ∙ ap (λ (b : Bool). cond b (suc (first_not p (drop (i + 1) s))) 0) (not-false r n) in
         omega (arith, v, q)
 
-    pub first-here : not r ≡ true → i ≡ first_not p s
-    first-here n =
+    pub first_here : not r ≡ true → i ≡ first_not p s
+    first_here n =
         let q : first_not p (drop i s) ≡ 0 = here ∙ ap (λ (b : Bool). cond b (suc (first_not p (drop (i + 1) s))) 0) (not-true r n) in
         omega (arith, v, q)
 
-  pub first-none : first_not p s ≡ i + first_not p (drop i s) → length s ≤ i → i ≡ first_not p s
-  first-none v h = let q : first_not p (drop i s) ≡ 0 = ap (first_not p) (ended s i h) in omega (arith, v, q)
+  pub first_none : first_not p s ≡ i + first_not p (drop i s) → length s ≤ i → i ≡ first_not p s
+  first_none v h = let q : first_not p (drop i s) ≡ 0 = ap (first_not p) (ended s i h) in omega (arith, v, q)
 
   -- b is what the call says of the byte at i, r what that adds, n those before
   pub count_again : (n r : ℕ) (b : Bool) → count p s ≡ n + count p (drop i s) → i < length s → b ≡ p (get_or s i 0) → r ≡ bit b
@@ -38,9 +38,9 @@ module _ (p : ℕ → Bool) (s : List ℕ) (i : ℕ) where
       let w : count p (drop i s) ≡ r + count p (drop (i + 1) s) = ap (count p) (next s i h) ∙ ap (λ (k : ℕ). k + count p (drop (i + 1) s)) g in
       omega (arith, v, w)
 
-  pub count-done : (n : ℕ) → count p s ≡ n + count p (drop i s) → length s ≤ i → n ≡ count p s
-  count-done n v h = let w : count p (drop i s) ≡ 0 = ap (count p) (ended s i h) in omega (arith, v, w)
+  pub count_done : (n : ℕ) → count p s ≡ n + count p (drop i s) → length s ≤ i → n ≡ count p s
+  count_done n v h = let w : count p (drop i s) ≡ 0 = ap (count p) (ended s i h) in omega (arith, v, w)
 
-pub ruleset first-loop = (first_again, first-here, first-none)
+pub ruleset first-loop = (first_again, first_here, first_none)
 
-pub ruleset count-loop = (count_again, count-done)
+pub ruleset count-loop = (count_again, count_done)

@@ -64,12 +64,12 @@ long : length table ≡ 256
 unfolding table
 long = refl
 
-fits-at : (ks : List ℕ) (i : ℕ) → T (fits i ks) → (x : ℕ) → x < length ks → T (agree (i + x) (get_or ks x 0) ranges)
-fits-at [] i t x h = absurd (not-suc-le-zero h)
-fits-at (k ∷ ks) i t zero h = subst (λ (m : ℕ). T (agree m k ranges)) (sym (add-zero i)) (two (agree i k ranges) (fits (suc i) ks) t).0
-fits-at (k ∷ ks) i t (suc x) h =
+fits_at : (ks : List ℕ) (i : ℕ) → T (fits i ks) → (x : ℕ) → x < length ks → T (agree (i + x) (get_or ks x 0) ranges)
+fits_at [] i t x h = absurd (not-suc-le-zero h)
+fits_at (k ∷ ks) i t zero h = subst (λ (m : ℕ). T (agree m k ranges)) (sym (add-zero i)) (two (agree i k ranges) (fits (suc i) ks) t).0
+fits_at (k ∷ ks) i t (suc x) h =
     subst (λ (m : ℕ). T (agree m (get_or ks x 0) ranges)) (suc-add i x ∙ sym (add-suc i x))
-    (fits-at ks (suc i) (two (agree i k ranges) (fits (suc i) ks) t).1 x (le_of_suc-le-suc h))
+    (fits_at ks (suc i) (two (agree i k ranges) (fits (suc i) ks) t).1 x (le_of_suc-le-suc h))
 
 past : (ks : List ℕ) (x : ℕ) → length ks ≤ x → get_or ks x 0 ≡ 0
 past [] x h = refl
@@ -96,7 +96,7 @@ everywhere : (x : ℕ) → T (agree x (get_or table x 0) ranges)
 everywhere x = go (ltb x 256) refl
   where
     go : (q : Bool) → ltb x 256 ≡ q → T (agree x (get_or table x 0) ranges)
-    go true e = subst (λ (m : ℕ). T (agree m (get_or table x 0) ranges)) (zero-add x) (fits-at table 0 fitting x (omega (arith, ltb-true x 256 e, long)))
+    go true e = subst (λ (m : ℕ). T (agree m (get_or table x 0) ranges)) (zero-add x) (fits_at table 0 fitting x (omega (arith, ltb-true x 256 e, long)))
     go false e =
         let h : 256 ≤ x = ltb-false x 256 e in
         subst (λ (k : ℕ). T (agree x k ranges)) (sym (past table x (omega (arith, h, long)))) (outside x h)
@@ -117,8 +117,8 @@ pub tells : (n : ℕ) → is_in table (range n ranges).set ≡ (range n ranges).
 unfolding is_in
 tells n = λ i x. agree_at n x (get_or table x 0) ranges (everywhere x) i
 
-pub digit-kind : is_in table 1 ≡ is_digit
-digit-kind = tells 1
+pub digit_kind : is_in table 1 ≡ is_digit
+digit_kind = tells 1
 
 pub letter_kind : is_in table 2 ≡ is_letter
 letter_kind = tells 2
@@ -126,20 +126,20 @@ letter_kind = tells 2
 pub alnum_kind : is_in table 3 ≡ is_alnum
 alnum_kind = tells 0
 
-pub name-kind : is_in table 4 ≡ name_byte
-name-kind = tells 3
+pub name_kind : is_in table 4 ≡ name_byte
+name_kind = tells 3
 
-pub street-kind : is_in table 8 ≡ street_byte
-street-kind = tells 4
+pub street_kind : is_in table 8 ≡ street_byte
+street_kind = tells 4
 
-pub city-kind : is_in table 16 ≡ city_byte
-city-kind = tells 5
+pub city_kind : is_in table 16 ≡ city_byte
+city_kind = tells 5
 
-pub account-kind : is_in table 32 ≡ account_byte
-account-kind = tells 6
+pub account_kind : is_in table 32 ≡ account_byte
+account_kind = tells 6
 
-pub control-kind : is_in table 64 ≡ control_byte
-control-kind = tells 7
+pub control_kind : is_in table 64 ≡ control_byte
+control_kind = tells 7
 
 pub printable_kind : is_in table 128 ≡ within 32 126
 printable_kind = tells 8

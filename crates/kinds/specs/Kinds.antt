@@ -42,7 +42,7 @@ unfoldable pub is_in : List ℕ → ℕ → ℕ → Bool
 is_in row set x = not (eqb (bit_and (get_or row x 0) set) 0)
 
 -- the place of the first that does not pass; the length for none
--- tied to the paper by `account-no` and `account-yes` of field/Spaces
+-- tied to the paper by `account_no` and `account_yes` of field/Spaces
 abbrev pub first_not : (ℕ → Bool) → Bytes → ℕ
 first_not p [] = 0
 first_not p (x ∷ s) = cond (p x) (suc (first_not p s)) 0

@@ -19,9 +19,9 @@ use Rattle.text.proofs.Laws.{piece_whole}
 use Rattle.lines.specs.Body.{good_rows, rank_of, climbs}
 
 -- so many bytes less for one line less
-pub row-less : (m w : ℕ) → 0 < m → m * w ≡ (m - 1) * w + w
-row-less zero w h = absurd (not-suc-le-zero h)
-row-less (suc m) w h = suc-mul m w ∙ ap (λ (k : ℕ). k * w + w) (sym (sub-one (suc m)))
+pub row_less : (m w : ℕ) → 0 < m → m * w ≡ (m - 1) * w + w
+row_less zero w h = absurd (not-suc-le-zero h)
+row_less (suc m) w h = suc-mul m w ∙ ap (λ (k : ℕ). k * w + w) (sym (sub-one (suc m)))
 
 pub rows_next : (m w at : ℕ) (s : Bytes) → 0 < m → rows m w (drop at s) ≡ take w (drop at s) ∷ rows (m - 1) w (drop (at + w) s)
 rows_next zero w at s h = absurd (not-suc-le-zero h)
@@ -34,9 +34,9 @@ no_rows zero w s h = refl
 no_rows (suc m) w s h = absurd (not-suc-le-zero h)
 
 -- the line `&s[at..at + w]` is w bytes wide
-pub line-wide : (w m at : ℕ) (s : Bytes) → at + m * w ≤ length s → 0 < m → length (take (at + w - at) (drop at s)) ≡ w
-line-wide w m at s h l =
-    ap length (piece_whole s at w) ∙ length-take-le w (drop at s) (omega (arith, row-less m w l, length-drop at s))
+pub line_wide : (w m at : ℕ) (s : Bytes) → at + m * w ≤ length s → 0 < m → length (take (at + w - at) (drop at s)) ≡ w
+line_wide w m at s h l =
+    ap length (piece_whole s at w) ∙ length-take-le w (drop at s) (omega (arith, row_less m w l, length-drop at s))
 
 -- no line is empty
 pub width_some : (k : ℕ) → 0 < width_of k
@@ -52,21 +52,21 @@ width_some k = go (eqb k 1) (eqb k 2) (eqb k 3) (eqb k 4)
 
 -- A loop that looks for a line that passes; v is what it is to answer, r the test's result at the line `&s[at..at + w]`
 module _ (p : Bytes → Bool) (w m at : ℕ) (s : Bytes) (v r : Bool) (e : v ≡ any p (rows m w (drop at s))) (h : 0 < m) (q : r ≡ p (take (at + w - at) (drop at s))) where
-  any-split : v ≡ (r || any p (rows (m - 1) w (drop (at + w) s)))
-  any-split =
+  any_split : v ≡ (r || any p (rows (m - 1) w (drop (at + w) s)))
+  any_split =
       e ∙ ap (any p) (rows_next m w at s h)
       ∙ ap (λ (b : Bool). b || any p (rows (m - 1) w (drop (at + w) s))) (ap p (sym (piece_whole s at w)) ∙ sym q)
 
   pub any_again : r ≡ false → v ≡ any p (rows (m - 1) w (drop (at + w) s))
-  any_again t = any-split ∙ ap (λ (b : Bool). b || any p (rows (m - 1) w (drop (at + w) s))) t
+  any_again t = any_split ∙ ap (λ (b : Bool). b || any p (rows (m - 1) w (drop (at + w) s))) t
 
-  pub any-yes : r ≡ true → true ≡ v
-  any-yes t = sym (any-split ∙ ap (λ (b : Bool). b || any p (rows (m - 1) w (drop (at + w) s))) t)
+  pub any_yes : r ≡ true → true ≡ v
+  any_yes t = sym (any_split ∙ ap (λ (b : Bool). b || any p (rows (m - 1) w (drop (at + w) s))) t)
 
-pub any-no : (p : Bytes → Bool) (w m : ℕ) (s : Bytes) (v : Bool) → v ≡ any p (rows m w s) → m ≤ 0 → false ≡ v
-any-no p w m s v e h = sym (e ∙ ap (any p) (no_rows m w s h))
+pub any_no : (p : Bytes → Bool) (w m : ℕ) (s : Bytes) (v : Bool) → v ≡ any p (rows m w s) → m ≤ 0 → false ≡ v
+any_no p w m s v e h = sym (e ∙ ap (any p) (no_rows m w s h))
 
-pub ruleset any-line = (any_again, any-yes, any-no)
+pub ruleset any-line = (any_again, any_yes, any_no)
 
 -- A loop that holds each line's number against the one before, x; y is the number of the line `&s[at..at + w]`, r the result at the two
 module _ (k w m at x y : ℕ) (s : Bytes) (v r : Bool) (e : v ≡ climbs k x (rows m w (drop at s))) (h : 0 < m) (q : y ≡ rank_of k (take (at + w - at) (drop at s))) (t : r ≡ ltb x y) where
@@ -122,14 +122,14 @@ kind_5 k a b c d =
 
 -- the number of a line of the kind; x is the test's result at `&l[0..w]`, z the number of `&l[0..r]` or 0
 module _ (k w r : ℕ) (p : Bytes → Bool) (of : Kind k w r p) (l : Bytes) (f : length l ≡ width_of k) where
-  pub long-enough : w ≤ length l
-  long-enough = omega (arith, f, of.width)
+  pub long_enough : w ≤ length l
+  long_enough = omega (arith, f, of.width)
 
   whole : take w l ≡ l
   whole = take_all w l (omega (arith, f, of.width))
 
-  pub cut-wide : length (take w l) ≡ w
-  cut-wide = ap length whole ∙ f ∙ of.width
+  pub cut_wide : length (take w l) ≡ w
+  cut_wide = ap length whole ∙ f ∙ of.width
 
   module _ (x : Bool) (z : ℕ) (e : x ≡ p (take w l)) where
     pub rank_told : z ≡ cond x (high 16 (take r l)) 0 → z ≡ rank_of k l
@@ -142,11 +142,11 @@ module _ (k w r : ℕ) (p : Bytes → Bool) (of : Kind k w r p) (l : Bytes) (f :
     pub rank_cut : (t : Bytes) → t ≡ part 0 r (take w l) → z ≡ cond x (high 16 t) 0 → z ≡ rank_of k l
     rank_cut t d q = rank_told (q ∙ ap (λ (u : Bytes). cond x (high 16 u) 0) (d ∙ ap (take r) whole))
 
-pub ruleset kinds = (kind_1, kind_2, kind_3, kind_4, long-enough, cut-wide, rank_told, rank_cut)
+pub ruleset kinds = (kind_1, kind_2, kind_3, kind_4, long_enough, cut_wide, rank_told, rank_cut)
 
 -- the last byte of a bank's line
-pub yes-no-last : (l : Bytes) → length l ≡ 10 → every yes_no (part 9 1 l) ≡ yes_no (get_or l 9 0)
-yes-no-last l h = ap (every yes_no) (take_next 0 9 l (omega (arith, h))) ∙ and-true (yes_no (get_or l 9 0))
+pub yes_no_last : (l : Bytes) → length l ≡ 10 → every yes_no (part 9 1 l) ≡ yes_no (get_or l 9 0)
+yes_no_last l h = ap (every yes_no) (take_next 0 9 l (omega (arith, h))) ∙ and-true (yes_no (get_or l 9 0))
 
 -- the tests on a block's lines; w is the width
 module _ (k w : ℕ) (b : Bytes) (e : w ≡ width_of k) where

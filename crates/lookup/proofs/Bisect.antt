@@ -55,10 +55,10 @@ module _ (p : ℕ → Bool) where
           down f lo hi l k ∙ s (omega arith) ∙ sym (down (suc f) lo hi l k)
 
   -- it comes to a place that is not past the last
-  pub bisect-within : (f lo hi : ℕ) → lo ≤ hi → bisect p f lo hi ≤ hi
+  pub bisect_within : (f lo hi : ℕ) → lo ≤ hi → bisect p f lo hi ≤ hi
   unfolding bisect
-  bisect-within zero lo hi h = h
-  bisect-within (suc f) lo hi h = go (ltb lo hi) refl (p (mid lo hi)) (bisect-within f (mid lo hi + 1) hi) (bisect-within f lo (mid lo hi))
+  bisect_within zero lo hi h = h
+  bisect_within (suc f) lo hi h = go (ltb lo hi) refl (p (mid lo hi)) (bisect_within f (mid lo hi + 1) hi) (bisect_within f lo (mid lo hi))
     where
       go : (t : Bool) → ltb lo hi ≡ t → (q : Bool) → (mid lo hi + 1 ≤ hi → bisect p f (mid lo hi + 1) hi ≤ hi)
           → (lo ≤ mid lo hi → bisect p f lo (mid lo hi) ≤ mid lo hi) → step f lo hi t q ≤ hi
@@ -79,7 +79,7 @@ module _ (p : ℕ → Bool) where
   -- where the test turns once among n places, the search comes to the turn
   pub record Turn (n r : ℕ) : Type 0 where
     pub within : r ≤ n
-    pub yes-below : (j : ℕ) → j < r → p j ≡ true
+    pub yes_below : (j : ℕ) → j < r → p j ≡ true
     pub no_above : (j : ℕ) → r ≤ j → j < n → p j ≡ false
 
   module _ (n : ℕ) (mono : (i j : ℕ) → i < j → j < n → p j ≡ true → p i ≡ true) where
@@ -96,7 +96,7 @@ module _ (p : ℕ → Bool) where
 
     turns : (f lo hi : ℕ) → hi - lo ≤ f → lo ≤ hi → hi ≤ n → ((j : ℕ) → j < lo → p j ≡ true) → ((j : ℕ) → hi ≤ j → j < n → p j ≡ false) → Turn n (bisect p f lo hi)
     unfolding bisect
-    turns zero lo hi h l k y z = record { within = omega arith; yes-below = y; no_above = λ j g. z j (omega arith) }
+    turns zero lo hi h l k y z = record { within = omega arith; yes_below = y; no_above = λ j g. z j (omega arith) }
     turns (suc f) lo hi h l k y z =
         go (ltb lo hi) refl (p (mid lo hi)) refl (turns f (mid lo hi + 1) hi) (turns f lo (mid lo hi))
       where
@@ -104,7 +104,7 @@ module _ (p : ℕ → Bool) where
             → (hi - (mid lo hi + 1) ≤ f → mid lo hi + 1 ≤ hi → hi ≤ n → ((j : ℕ) → j < mid lo hi + 1 → p j ≡ true) → ((j : ℕ) → hi ≤ j → j < n → p j ≡ false) → Turn n (bisect p f (mid lo hi + 1) hi))
             → (mid lo hi - lo ≤ f → lo ≤ mid lo hi → mid lo hi ≤ n → ((j : ℕ) → j < lo → p j ≡ true) → ((j : ℕ) → mid lo hi ≤ j → j < n → p j ≡ false) → Turn n (bisect p f lo (mid lo hi)))
             → Turn n (step f lo hi t q)
-        go false e q v r s = record { within = omega arith; yes-below = y; no_above = λ j g. z j (le_trans (ltb-false lo hi e) g) }
+        go false e q v r s = record { within = omega arith; yes_below = y; no_above = λ j g. z j (le_trans (ltb-false lo hi e) g) }
         go true e true v r s =
             let g : lo < hi = ltb-true lo hi e in
             r (omega arith) (omega arith) k (up_to (mid lo hi) (omega arith) v) z

@@ -8,7 +8,7 @@ use lib.ListN.{length, take}
 use lib.Seq.{take_all}
 use Rattle.paper.specs.Bytes.{Bytes, every, before, part}
 use Rattle.text.specs.Words.{is_byte, high}
-use Rattle.text.proofs.Words.{before-high}
+use Rattle.text.proofs.Words.{before_high}
 
 -- the key `&a[0..9]` of nine bytes
 module _ (a : Bytes) (l : length a ≡ 9) where
@@ -24,4 +24,4 @@ module _ (a b : Bytes) (l : length a ≡ 9) (m : length b ≡ 9) (x y : ℕ) (e 
   pub nine_before : r ≡ ltb x y → r ≡ before a b
   nine_before q =
       q ∙ (λ i. ltb ((e ∙ ap (high 16) (nine_whole a l)) i) ((f ∙ ap (high 16) (nine_whole b m)) i))
-      ∙ sym (before-high 16 a b (nine_bytes a l h) (nine_bytes b m g) (l ∙ sym m) (omega arith))
+      ∙ sym (before_high 16 a b (nine_bytes a l h) (nine_bytes b m g) (l ∙ sym m) (omega arith))

@@ -12,7 +12,7 @@ use lib.ListN.{take}
 use lib.Seq.{take-nil}
 use borrow.Author.Tests.{eq-eqb, ne_eqb, lt-ltb, le-ltb, ltb-true, ltb-false, eqb-true, eqb-false}
 use Rattle.paper.specs.Bytes.{Bytes, same, before}
-use Rattle.paper.proofs.Laws.{never, same-eq}
+use Rattle.paper.proofs.Laws.{never, same_eq}
 
 -- the two ways in which one list comes before another
 view : (x y : ℕ) (s t : Bytes) → before (x ∷ s) (y ∷ t) ≡ true → (x < y) ⊎ ((x ≡ y) × (before s t ≡ true))
@@ -32,13 +32,13 @@ first x y s t h = ap (λ (q : Bool). q || eqb x y && before s t) (lt-ltb x y h)
 later : (x y : ℕ) (s t : Bytes) → x ≡ y → before s t ≡ true → before (x ∷ s) (y ∷ t) ≡ true
 later x y s t e h = simp (le-ltb x y (omega arith), eq-eqb x y e, h)
 
-pub before-trans : (a b c : Bytes) → before a b ≡ true → before b c ≡ true → before a c ≡ true
-before-trans [] [] c p q = absurd (never p)
-before-trans [] (y ∷ t) [] p q = absurd (never q)
-before-trans [] (y ∷ t) (z ∷ u) p q = refl
-before-trans (x ∷ s) [] c p q = absurd (never p)
-before-trans (x ∷ s) (y ∷ t) [] p q = absurd (never q)
-before-trans (x ∷ s) (y ∷ t) (z ∷ u) p q = go (view x y s t p) (view y z t u q) (before-trans s t u)
+pub before_trans : (a b c : Bytes) → before a b ≡ true → before b c ≡ true → before a c ≡ true
+before_trans [] [] c p q = absurd (never p)
+before_trans [] (y ∷ t) [] p q = absurd (never q)
+before_trans [] (y ∷ t) (z ∷ u) p q = refl
+before_trans (x ∷ s) [] c p q = absurd (never p)
+before_trans (x ∷ s) (y ∷ t) [] p q = absurd (never q)
+before_trans (x ∷ s) (y ∷ t) (z ∷ u) p q = go (view x y s t p) (view y z t u q) (before_trans s t u)
   where
     go : (x < y) ⊎ ((x ≡ y) × (before s t ≡ true)) → (y < z) ⊎ ((y ≡ z) × (before t u ≡ true))
         → (before s t ≡ true → before t u ≡ true → before s u ≡ true) → before (x ∷ s) (z ∷ u) ≡ true
@@ -56,19 +56,19 @@ before_irrefl (x ∷ s) e = go (view x x s s e) (before_irrefl s)
     go (inr h) r = r h.1
 
 -- what comes before another is not the same
-pub before-other : (a b : Bytes) → before a b ≡ true → same a b ≡ false
-before-other a b h = go (same a b) refl
+pub before_other : (a b : Bytes) → before a b ≡ true → same a b ≡ false
+before_other a b h = go (same a b) refl
   where
     go : (q : Bool) → same a b ≡ q → q ≡ false
-    go true e = absurd (before_irrefl b (subst (λ (l : Bytes). before l b ≡ true) (same-eq a b e) h))
+    go true e = absurd (before_irrefl b (subst (λ (l : Bytes). before l b ≡ true) (same_eq a b e) h))
     go false e = refl
 
 -- of two lists one comes before the other, or they are the same
-pub before-total : (a b : Bytes) → before a b ≡ false → (before b a ≡ true) ⊎ (a ≡ b)
-before-total [] [] e = inr refl
-before-total [] (y ∷ t) e = absurd (never (sym e))
-before-total (x ∷ s) [] e = inl refl
-before-total (x ∷ s) (y ∷ t) e = go (ltb x y) refl (eqb x y) refl e (before-total s t)
+pub before_total : (a b : Bytes) → before a b ≡ false → (before b a ≡ true) ⊎ (a ≡ b)
+before_total [] [] e = inr refl
+before_total [] (y ∷ t) e = absurd (never (sym e))
+before_total (x ∷ s) [] e = inl refl
+before_total (x ∷ s) (y ∷ t) e = go (ltb x y) refl (eqb x y) refl e (before_total s t)
   where
     go : (p : Bool) → ltb x y ≡ p → (q : Bool) → eqb x y ≡ q → (p || q && before s t) ≡ false
         → (before s t ≡ false → (before t s ≡ true) ⊎ (s ≡ t)) → (before (y ∷ t) (x ∷ s) ≡ true) ⊎ ((x ∷ s) ≡ (y ∷ t))
@@ -78,12 +78,12 @@ before-total (x ∷ s) (y ∷ t) e = go (ltb x y) refl (eqb x y) refl e (before-
         ⊎_elim (λ (b : before t s ≡ true). inl (later y x t s (sym (eqb-true x y l)) b)) (λ (b : s ≡ t). inr (λ i. eqb-true x y l i ∷ b i)) (r f)
 
 -- a not after b, b before c
-pub before-left : (a b c : Bytes) → before b a ≡ false → before b c ≡ true → before a c ≡ true
-before-left a b c h e = ⊎_elim (λ (l : before a b ≡ true). before-trans a b c l e) (λ (l : b ≡ a). subst (λ (x : Bytes). before x c ≡ true) l e) (before-total b a h)
+pub before_left : (a b c : Bytes) → before b a ≡ false → before b c ≡ true → before a c ≡ true
+before_left a b c h e = ⊎_elim (λ (l : before a b ≡ true). before_trans a b c l e) (λ (l : b ≡ a). subst (λ (x : Bytes). before x c ≡ true) l e) (before_total b a h)
 
 -- c before a, a not after b
-pub before-right : (a b c : Bytes) → before b a ≡ false → before c a ≡ true → before c b ≡ true
-before-right a b c h e = ⊎_elim (λ (l : before a b ≡ true). before-trans c a b e l) (λ (l : b ≡ a). subst (λ (x : Bytes). before c x ≡ true) (sym l) e) (before-total b a h)
+pub before_right : (a b c : Bytes) → before b a ≡ false → before c a ≡ true → before c b ≡ true
+before_right a b c h e = ⊎_elim (λ (l : before a b ≡ true). before_trans c a b e l) (λ (l : b ≡ a). subst (λ (x : Bytes). before c x ≡ true) (sym l) e) (before_total b a h)
 
 -- where the first k bytes ascend, the first j do not descend
 pub before_takes : (k j : ℕ) (a b : Bytes) → before (take k a) (take k b) ≡ true → before (take j b) (take j a) ≡ false

@@ -14,7 +14,7 @@ use Rattle.paper.specs.Bytes.{Bytes, same, before, part, empty, first_or}
 use Rattle.paper.specs.Pack.{rows, lines_in, keyed}
 use Rattle.text.proofs.Laws.{piece_whole}
 use Rattle.lines.proofs.Rows.{rows_next, no_rows}
-use Rattle.lookup.proofs.Bisect.{bisect-within, again_up, again_down}
+use Rattle.lookup.proofs.Bisect.{bisect_within, again_up, again_down}
 use Rattle.lookup.specs.Find.{mid, bisect, key_at, below, count_for, place_for, lead, lines_from, line_in, rows_in}
 
 -- how many lines a list of rows has
@@ -53,9 +53,9 @@ rows_cut (suc m) w s =
     ∙ ap (λ (l : List Bytes). take w s ∷ l) (rows_cut m w (drop w s))
 
 -- so many lines from a place on
-pub rows-part : (at m w : ℕ) (s : Bytes) → 0 < w → at + m * w ≤ length s → lines_in w (part at (m * w) s) ≡ rows m w (drop at s)
+pub rows_part : (at m w : ℕ) (s : Bytes) → 0 < w → at + m * w ≤ length s → lines_in w (part at (m * w) s) ≡ rows m w (drop at s)
 unfolding lines_in
-rows-part at m w s some h =
+rows_part at m w s some h =
     ap (λ (k : ℕ). rows k w (part at (m * w) s)) (ap (λ (k : ℕ). k / w) long ∙ mul-div_cancel m some)
     ∙ rows_cut m w (drop at s)
   where
@@ -81,9 +81,9 @@ lead_is key (l ∷ ls) = go (keyed key l) (lead_is key ls)
 
 -- the lines that are looked at
 module _ (w : ℕ) (key s : Bytes) where
-  pub no-width : w ≡ 0 → 0 ≡ count_for w key s
+  pub no_width : w ≡ 0 → 0 ≡ count_for w key s
   unfolding count_for
-  no-width h = sym (ap (λ (n : ℕ). cond (ltb w (length key)) 0 n) (ap (λ (k : ℕ). length s / k) h ∙ div-zero (length s)) ∙ go (ltb w (length key)))
+  no_width h = sym (ap (λ (n : ℕ). cond (ltb w (length key)) 0 n) (ap (λ (k : ℕ). length s / k) h ∙ div-zero (length s)) ∙ go (ltb w (length key)))
     where
       go : (b : Bool) → ◌≡◌ {A = ℕ} (cond b 0 0) 0
       go true = refl
@@ -93,9 +93,9 @@ module _ (w : ℕ) (key s : Bytes) where
   unfolding count_for
   wide_key h = simp (lt-ltb w (length key) h)
 
-  pub count-is : length key ≤ w → length s / w ≡ count_for w key s
+  pub count_is : length key ≤ w → length s / w ≡ count_for w key s
   unfolding count_for
-  count-is h = simp (le-ltb w (length key) h)
+  count_is h = simp (le-ltb w (length key) h)
 
   -- they lie within the block, and have the key's width
   pub count_fits : count_for w key s * w ≤ length s
@@ -117,9 +117,9 @@ module _ (w : ℕ) (key s : Bytes) where
       go true e h = absurd (not-suc-le-zero h)
       go false e h = ltb-false w (length key) e
 
-  pub place-within : place_for w key s ≤ count_for w key s
+  pub place_within : place_for w key s ≤ count_for w key s
   unfolding place_for
-  place-within = bisect-within (below w key s) (count_for w key s) 0 (count_for w key s) (omega arith)
+  place_within = bisect_within (below w key s) (count_for w key s) 0 (count_for w key s) (omega arith)
 
   -- no line is left
   none_left : count_for w key s ≤ place_for w key s → lines_from (place_for w key s) (count_for w key s) w s ≡ []
@@ -151,10 +151,10 @@ module _ (w : ℕ) (key s : Bytes) where
       go false e = sym (ap (λ (ls : List Bytes). first_or (lead key ls)) (none_left (ltb-false _ _ e)))
 
   -- the lines of what is found are those that lead
-  pub rows-lead : 0 < w → lines_in w (rows_in w key s) ≡ lead key (lines_from (place_for w key s) (count_for w key s) w s)
+  pub rows_lead : 0 < w → lines_in w (rows_in w key s) ≡ lead key (lines_from (place_for w key s) (count_for w key s) w s)
   unfolding rows_in
-  rows-lead some =
-      rows-part (i * w) m w s some room ∙ sym (rows_take m (count_for w key s - i) w (drop (i * w) s) short) ∙ lead_is key ls
+  rows_lead some =
+      rows_part (i * w) m w s some room ∙ sym (rows_take m (count_for w key s - i) w (drop (i * w) s) short) ∙ lead_is key ls
     where
       i : ℕ
       i = place_for w key s
@@ -172,12 +172,12 @@ module _ (w : ℕ) (key s : Bytes) where
       room = subst (λ (k : ℕ). k ≤ length s) (add-mul i m w) (le_trans (mul-le-mul_right w within) count_fits)
         where
           within : i + m ≤ count_for w key s
-          within = omega (arith, short, place-within)
+          within = omega (arith, short, place_within)
 
   -- no line is found where no byte is
   pub none_found : 0 < w → empty (lines_in w (rows_in w key s)) ≡ eqb (length (line_in w key s)) 0
   none_found some =
-      ap empty (rows-lead some) ∙ go (ltb (place_for w key s) (count_for w key s)) refl
+      ap empty (rows_lead some) ∙ go (ltb (place_for w key s) (count_for w key s)) refl
       ∙ ap (λ (l : Bytes). eqb (length l) 0) (sym line_first)
     where
       long : place_for w key s < count_for w key s → eqb (length (part (place_for w key s * w) w s)) 0 ≡ false
@@ -202,14 +202,14 @@ module _ (w : ℕ) (key s : Bytes) where
 
 -- the lines from line i on, and those of them that lead, lie within the block
 module _ (w : ℕ) (key s : Bytes) (n i : ℕ) (e : n ≡ count_for w key s) (h : i < n) where
-  pub line-fits : i * w + w ≤ length s
-  line-fits = row_fits w key s i (subst (λ (m : ℕ). i < m) e h)
+  pub line_fits : i * w + w ≤ length s
+  line_fits = row_fits w key s i (subst (λ (m : ℕ). i < m) e h)
 
-  pub line-key : length key ≤ w
-  line-key = key_fits w key s i (subst (λ (m : ℕ). i < m) e h)
+  pub line_key : length key ≤ w
+  line_key = key_fits w key s i (subst (λ (m : ℕ). i < m) e h)
 
-  pub rest-fits : i * w + (n - i) * w ≤ length s
-  rest-fits =
+  pub rest_fits : i * w + (n - i) * w ≤ length s
+  rest_fits =
       let whole : i + (n - i) ≡ n = omega arith in
       subst (λ (m : ℕ). m ≤ length s) (ap (λ (m : ℕ). m * w) (sym (whole ∙ e)) ∙ add-mul i (n - i) w) (count_fits w key s)
 
@@ -218,7 +218,7 @@ module _ (w : ℕ) (key s : Bytes) (n i : ℕ) (e : n ≡ count_for w key s) (h 
       let short : length (lead key (lines_from i n w s)) * w ≤ (n - i) * w =
       mul-le-mul_right w (subst (λ (m : ℕ). length (lead key (lines_from i n w s)) ≤ m) (length-rows (n - i) w (drop (i * w) s)) (lead_le key (lines_from i n w s)))
       in
-      omega (arith, f, short, rest-fits)
+      omega (arith, f, short, rest_fits)
 
 -- The loop that halves; v is the place it is to come to, r the result at the middle line's key
 module _ (w n low high v : ℕ) (key s : Bytes) (r : Bool) (e : bisect (below w key s) n low high ≡ v) (h : high ≤ n) (l : low < high)
@@ -232,15 +232,15 @@ module _ (w n low high v : ℕ) (key s : Bytes) (r : Bool) (e : bisect (below w 
   pub halve_down : r ≡ false → bisect (below w key s) n low (mid low high) ≡ v
   halve_down t = again_down (below w key s) n low high v e h l (middle_told ∙ t)
 
-pub place-start : (w n : ℕ) (key s : Bytes) → n ≡ count_for w key s → bisect (below w key s) n 0 n ≡ place_for w key s
+pub place_start : (w n : ℕ) (key s : Bytes) → n ≡ count_for w key s → bisect (below w key s) n 0 n ≡ place_for w key s
 unfolding place_for
-place-start w n key s e = ap (λ (m : ℕ). bisect (below w key s) m 0 m) e
+place_start w n key s e = ap (λ (m : ℕ). bisect (below w key s) m 0 m) e
 
 -- The loop along the lines of the key; v is where it is to end, r the result at `&s[at..at + length key]`
 module _ (w m at v : ℕ) (key s : Bytes) (r : Bool) (e : v ≡ at + length (lead key (rows m w (drop at s))) * w) (k : length key ≤ w) (h : 0 < m)
     (q : r ≡ same (take (at + length key - at) (drop at s)) key) where
-  run-split : v ≡ at + length (cond r (take w (drop at s) ∷ lead key (rows (m - 1) w (drop (at + w) s))) []) * w
-  run-split =
+  run_split : v ≡ at + length (cond r (take w (drop at s) ∷ lead key (rows (m - 1) w (drop (at + w) s))) []) * w
+  run_split =
       e ∙ ap (λ (ls : List Bytes). at + length (lead key ls) * w) (rows_next m w at s h)
       ∙ ap (λ (b : Bool). at + length (cond b (take w (drop at s) ∷ lead key (rows (m - 1) w (drop (at + w) s))) []) * w)
       (ap (λ (l : Bytes). same l key) (take-take (length key) w (drop at s) k ∙ sym (piece_whole s at (length key))) ∙ sym q)
@@ -248,36 +248,36 @@ module _ (w m at v : ℕ) (key s : Bytes) (r : Bool) (e : v ≡ at + length (lea
   pub run_again : r ≡ true → v ≡ at + w + length (lead key (rows (m - 1) w (drop (at + w) s))) * w
   run_again t =
       let more = length (lead key (rows (m - 1) w (drop (at + w) s))) in
-      run-split ∙ ap (λ (b : Bool). at + length (cond b (take w (drop at s) ∷ lead key (rows (m - 1) w (drop (at + w) s))) []) * w) t
+      run_split ∙ ap (λ (b : Bool). at + length (cond b (take w (drop at s) ∷ lead key (rows (m - 1) w (drop (at + w) s))) []) * w) t
       ∙ omega (arith, suc-mul more w)
 
-  pub run-stop : r ≡ false → at ≡ v
-  run-stop t =
-      sym (run-split ∙ ap (λ (b : Bool). at + length (cond b (take w (drop at s) ∷ lead key (rows (m - 1) w (drop (at + w) s))) []) * w) t
+  pub run_stop : r ≡ false → at ≡ v
+  run_stop t =
+      sym (run_split ∙ ap (λ (b : Bool). at + length (cond b (take w (drop at s) ∷ lead key (rows (m - 1) w (drop (at + w) s))) []) * w) t
       ∙ omega (arith, zero-mul w))
 
-pub run-done : (w m at v : ℕ) (key s : Bytes) → v ≡ at + length (lead key (rows m w s)) * w → m ≤ 0 → at ≡ v
-run-done w m at v key s e h = sym (e ∙ ap (λ (ls : List Bytes). at + length (lead key ls) * w) (no_rows m w s h) ∙ omega (arith, zero-mul w))
+pub run_done : (w m at v : ℕ) (key s : Bytes) → v ≡ at + length (lead key (rows m w s)) * w → m ≤ 0 → at ≡ v
+run_done w m at v key s e h = sym (e ∙ ap (λ (ls : List Bytes). at + length (lead key ls) * w) (no_rows m w s h) ∙ omega (arith, zero-mul w))
 
-pub ruleset run-loop = (run_again, run-stop, run-done)
+pub ruleset run-loop = (run_again, run_stop, run_done)
 
 -- what the searches answer, from the lines looked at and the place
 module _ (w : ℕ) (key s : Bytes) (n i : ℕ) (e : n ≡ count_for w key s) (f : i ≡ place_for w key s) where
-  pub line-none : n ≤ i → [] ≡ line_in w key s
+  pub line_none : n ≤ i → [] ≡ line_in w key s
   unfolding line_in
-  line-none h = simp (← f, ← e, le-ltb i n h)
+  line_none h = simp (← f, ← e, le-ltb i n h)
 
   module _ (h : i < n) (r : Bool) (q : r ≡ same (take (i * w + length key - i * w) (drop (i * w) s)) key) where
-    key-told : same (key_at w (length key) s i) key ≡ r
-    key-told = ap (λ (l : Bytes). same l key) (sym (piece_whole s (i * w) (length key))) ∙ sym q
+    key_told : same (key_at w (length key) s i) key ≡ r
+    key_told = ap (λ (l : Bytes). same l key) (sym (piece_whole s (i * w) (length key))) ∙ sym q
 
     pub line_miss : r ≡ false → [] ≡ line_in w key s
     unfolding line_in
-    line_miss t = simp (← f, ← e, lt-ltb i n h, key-told, t)
+    line_miss t = simp (← f, ← e, lt-ltb i n h, key_told, t)
 
     pub line_hit : r ≡ true → take (i * w + w - i * w) (drop (i * w) s) ≡ line_in w key s
     unfolding line_in
-    line_hit t = piece_whole s (i * w) w ∙ simp (← f, ← e, lt-ltb i n h, key-told, t)
+    line_hit t = piece_whole s (i * w) w ∙ simp (← f, ← e, lt-ltb i n h, key_told, t)
 
   pub rows_none : n ≤ i → [] ≡ rows_in w key s
   unfolding rows_in
@@ -289,4 +289,4 @@ module _ (w : ℕ) (key s : Bytes) (n i : ℕ) (e : n ≡ count_for w key s) (f 
   unfolding rows_in
   rows_hit z g = ap (λ (k : ℕ). take (k - i * w) (drop (i * w) s)) g ∙ piece_whole s (i * w) _ ∙ simp (← f, ← e)
 
-pub ruleset answers = (line-none, line_miss, line_hit, rows_none, rows_hit)
+pub ruleset answers = (line_none, line_miss, line_hit, rows_none, rows_hit)

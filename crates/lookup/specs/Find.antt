@@ -40,14 +40,14 @@ abbrev pub lines_from : ℕ → ℕ → ℕ → Bytes → List Bytes
 lines_from i n w s = rows (n - i) w (drop (i * w) s)
 
 -- the line with the key, or no byte
--- tied to the paper by `line-found` of lookup/Laws
+-- tied to the paper by `line_found` of lookup/Laws
 unfoldable pub line_in : ℕ → Bytes → Bytes → Bytes
 line_in w key s =
     cond (ltb (place_for w key s) (count_for w key s) && same (key_at w (length key) s (place_for w key s)) key)
     (part (place_for w key s * w) w s) []
 
 -- the lines with the key, as bytes
--- tied to the paper by `rows-found` of lookup/Laws
+-- tied to the paper by `rows_found` of lookup/Laws
 unfoldable pub rows_in : ℕ → Bytes → Bytes → Bytes
 rows_in w key s = part (place_for w key s * w) (length (lead key (lines_from (place_for w key s) (count_for w key s) w s)) * w) s
 

@@ -14,42 +14,42 @@ use Rattle.paper.proofs.Laws.{both}
 use Rattle.text.proofs.Laws.{piece_whole}
 
 -- the part `&s[at..]`
-pub tail-is : (s : Bytes) (at : ℕ) → take (length s - at) (drop at s) ≡ drop at s
-tail-is s at = take_all (length s - at) (drop at s) (simp length-drop (omega arith))
+pub tail_is : (s : Bytes) (at : ℕ) → take (length s - at) (drop at s) ≡ drop at s
+tail_is s at = take_all (length s - at) (drop at s) (simp length-drop (omega arith))
 
 -- the tests on the way through a block
 module _ (k : ℕ) (s : Bytes) where
-  pub block-short : length s < 6 → false ≡ good_block k s
+  pub block_short : length s < 6 → false ≡ good_block k s
   unfolding good_block
-  block-short h = simp (lt-leb 6 (length s) h)
+  block_short h = simp (lt-leb 6 (length s) h)
 
   module _ (h : 6 ≤ length s) (q : ℕ) (e : q ≡ kind_said s) where
-    pub block-other : (q ≡ k → ⊥) → false ≡ good_block k s
+    pub block_other : (q ≡ k → ⊥) → false ≡ good_block k s
     unfolding good_block
-    block-other d = simp (le-leb 6 (length s) h, ← e, ne_eqb q k d)
+    block_other d = simp (le-leb 6 (length s) h, ← e, ne_eqb q k d)
 
     module _ (d : q ≡ k) (z : ℕ) (f : z ≡ size_said s) where
-      pub block-past : length s < 6 + z → false ≡ good_block k s
+      pub block_past : length s < 6 + z → false ≡ good_block k s
       unfolding good_block
-      block-past l = simp (le-leb 6 (length s) h, ← e, eq-eqb q k d, ← f, lt-leb (6 + z) (length s) l)
+      block_past l = simp (le-leb 6 (length s) h, ← e, eq-eqb q k d, ← f, lt-leb (6 + z) (length s) l)
 
-      pub block-end : (r : Bool) → 6 + z ≤ length s → r ≡ good_body k (take (6 + z - 6) (drop 6 s)) → r ≡ good_block k s
+      pub block_end : (r : Bool) → 6 + z ≤ length s → r ≡ good_body k (take (6 + z - 6) (drop 6 s)) → r ≡ good_block k s
       unfolding good_block body
-      block-end r l g =
+      block_end r l g =
           g ∙ ap (good_body k) (piece_whole s 6 z ∙ ap (λ (n : ℕ). take n (drop 6 s)) f)
           ∙ simp (le-leb 6 (length s) h, ← e, eq-eqb q k d, ← f, le-leb (6 + z) (length s) l)
 
 -- a good block lies within the list, and its lines are good
 module _ (k : ℕ) (s : Bytes) (e : good_block k s ≡ true) where
-  pub block-fits : 6 + size_said s ≤ length s
+  pub block_fits : 6 + size_said s ≤ length s
   unfolding good_block
-  block-fits =
+  block_fits =
       leb-true (6 + size_said s) (length s)
       (both (leb 6 (length s) && eqb (kind_said s) k) _ (both (leb 6 (length s) && eqb (kind_said s) k && leb (6 + size_said s) (length s)) _ e).0).1
 
-  pub block-body : good_body k (body s) ≡ true
+  pub block_body : good_body k (body s) ≡ true
   unfolding good_block
-  block-body = (both (leb 6 (length s) && eqb (kind_said s) k && leb (6 + size_said s) (length s)) _ e).1
+  block_body = (both (leb 6 (length s) && eqb (kind_said s) k && leb (6 + size_said s) (length s)) _ e).1
 
 -- what follows the block at a place
 pub after_is : (s : Bytes) (at z : ℕ) → z ≡ size_said (drop at s) → drop (at + (6 + z)) s ≡ after (drop at s)
@@ -63,18 +63,18 @@ module _ (k at : ℕ) (s : Bytes) (v : Bool) (e : v ≡ good_blocks (6 - k) k (d
     blocks_split =
         let one_less : 6 - k ≡ suc (6 - (k + 1)) = omega arith in
         e ∙ ap (λ (n : ℕ). good_blocks n k (drop at s)) one_less
-        ∙ ap (λ (b : Bool). b && good_blocks (6 - (k + 1)) (k + 1) (after (drop at s))) (ap (good_block k) (sym (tail-is s at)) ∙ sym q)
+        ∙ ap (λ (b : Bool). b && good_blocks (6 - (k + 1)) (k + 1) (after (drop at s))) (ap (good_block k) (sym (tail_is s at)) ∙ sym q)
 
     pub blocks_bad : r ≡ false → false ≡ v
     blocks_bad t = sym (blocks_split ∙ ap (λ (b : Bool). b && good_blocks (6 - (k + 1)) (k + 1) (after (drop at s))) t)
 
     module _ (t : r ≡ true) (z : ℕ) (f : z ≡ size_said (take (length s - at) (drop at s))) where
       size_is : z ≡ size_said (drop at s)
-      size_is = f ∙ ap size_said (tail-is s at)
+      size_is = f ∙ ap size_said (tail_is s at)
 
       pub blocks_fit : at ≤ length s → at + (6 + z) ≤ length s
       blocks_fit l =
-          let fits : 6 + size_said (drop at s) ≤ length (drop at s) = block-fits k (drop at s) (ap (good_block k) (sym (tail-is s at)) ∙ sym q ∙ t) in
+          let fits : 6 + size_said (drop at s) ≤ length (drop at s) = block_fits k (drop at s) (ap (good_block k) (sym (tail_is s at)) ∙ sym q ∙ t) in
           omega (arith, fits, size_is, length-drop at s)
 
       pub blocks_next : v ≡ good_blocks (6 - (k + 1)) (k + 1) (drop (at + (6 + z)) s)

@@ -16,12 +16,12 @@ use Rattle.pack.specs.declared.Places.{Places}
 use Rattle.pack.specs.declared.Shape.TheVariants.{Good, Bad}
 use Rattle.pack.specs.Shape.{place_at, past, place_of, places_of, shape_of, lines_at}
 use Rattle.paper.proofs.Laws.{never, both}
-use Rattle.pack.proofs.Blocks.{tail-is, block-fits, block-body, after_is}
+use Rattle.pack.proofs.Blocks.{tail_is, block_fits, block_body, after_is}
 
 -- one block more to skip
-skip-more : (n : ℕ) (s : Bytes) → skip (suc n) s ≡ after (skip n s)
-skip-more zero s = refl
-skip-more (suc n) s = skip-more n (after s)
+skip_more : (n : ℕ) (s : Bytes) → skip (suc n) s ≡ after (skip n s)
+skip_more zero s = refl
+skip_more (suc n) s = skip_more n (after s)
 
 -- what follows the block of kind k
 pub past_is : (k : ℕ) (s : Bytes) → drop (past (place_of k s)) s ≡ skip k s
@@ -30,12 +30,12 @@ past_is zero s = refl
 past_is (suc k) s =
     let at = past (place_of k s) in
     let sum : at + 6 + size_said (drop at s) ≡ at + (6 + size_said (drop at s)) = omega arith in
-    ap (λ (n : ℕ). drop n s) sum ∙ after_is s at (size_said (drop at s)) refl ∙ ap after (past_is k s) ∙ sym (skip-more k s)
+    ap (λ (n : ℕ). drop n s) sum ∙ after_is s at (size_said (drop at s)) refl ∙ ap after (past_is k s) ∙ sym (skip_more k s)
 
 -- the lines at the place of kind k are the block's
-pub lines-there : (k : ℕ) (s : Bytes) → lines_at (place_of (suc k) s) s ≡ block_of (suc k) s
+pub lines_there : (k : ℕ) (s : Bytes) → lines_at (place_of (suc k) s) s ≡ block_of (suc k) s
 unfolding place_at block_of body
-lines-there k s =
+lines_there k s =
     let at = past (place_of k s) in
     let same_kind : suc k - 1 ≡ k = omega arith in
     ap (take (size_said (drop at s))) (sym (drop-drop 6 at s))
@@ -52,15 +52,15 @@ blocks_at (suc n) k s e (suc i) h =
     ap (λ (m : ℕ). good_block m (skip i (after s))) z ∙ blocks_at n (k + 1) (after s) (both (good_block k s) _ e).1 i (le_of_suc-le-suc h)
 
 module _ (s : Bytes) (well : well_formed s ≡ true) where
-  pub good-at : (k : ℕ) → k < 5 → good_block (1 + k) (skip k s) ≡ true
+  pub good_at : (k : ℕ) → k < 5 → good_block (1 + k) (skip k s) ≡ true
   unfolding well_formed
-  good-at k h = blocks_at 5 1 s (both (leb (length s) 65536) _ well).1 k h
+  good_at k h = blocks_at 5 1 s (both (leb (length s) 65536) _ well).1 k h
 
   pub body_at : (k : ℕ) → 1 ≤ k → k ≤ 5 → good_body k (block_of k s) ≡ true
   unfolding block_of
   body_at k h l =
       let z : 1 + (k - 1) ≡ k = omega arith in
-      subst (λ (m : ℕ). good_body m (body (skip (k - 1) s)) ≡ true) z (block-body (1 + (k - 1)) (skip (k - 1) s) (good-at (k - 1) (omega arith)))
+      subst (λ (m : ℕ). good_body m (body (skip (k - 1) s)) ≡ true) z (block_body (1 + (k - 1)) (skip (k - 1) s) (good_at (k - 1) (omega arith)))
 
   -- each place lies within the pack
   pub past_in : (k : ℕ) → k ≤ 5 → past (place_of k s) ≤ length s
@@ -70,18 +70,18 @@ module _ (s : Bytes) (well : well_formed s ≡ true) where
       let at = past (place_of k s) in
       let l : at ≤ length s = past_in k (omega arith) in
       let fits : 6 + size_said (drop at s) ≤ length (drop at s) =
-      subst (λ (t : Bytes). 6 + size_said t ≤ length t) (sym (past_is k s)) (block-fits (1 + k) (skip k s) (good-at k (omega arith)))
+      subst (λ (t : Bytes). 6 + size_said t ≤ length t) (sym (past_is k s)) (block_fits (1 + k) (skip k s) (good_at k (omega arith)))
       in
       omega (arith, fits, length-drop at s)
 
 -- the place at a place
-pub place-told : (at z : ℕ) (s : Bytes) → z ≡ size_said (take (length s - at) (drop at s)) → ◌≡◌ {A = Place} (record { start = at + 6; size = z }) (place_at at s)
+pub place_told : (at z : ℕ) (s : Bytes) → z ≡ size_said (take (length s - at) (drop at s)) → ◌≡◌ {A = Place} (record { start = at + 6; size = z }) (place_at at s)
 unfolding place_at
-place-told at z s f = let e : z ≡ size_said (drop at s) = f ∙ ap size_said (tail-is s at) in λ i. record { start = at + 6; size = e i }
+place_told at z s f = let e : z ≡ size_said (drop at s) = f ∙ ap size_said (tail_is s at) in λ i. record { start = at + 6; size = e i }
 
 -- each place after the one before
-pub place-next : (k : ℕ) (s : Bytes) (a b : Place) → a ≡ place_of k s → b ≡ place_at (past a) s → b ≡ place_of (suc k) s
-place-next k s a b e f = f ∙ ap (λ (p : Place). place_at (past p) s) e
+pub place_next : (k : ℕ) (s : Bytes) (a b : Place) → a ≡ place_of k s → b ≡ place_at (past a) s → b ≡ place_of (suc k) s
+place_next k s a b e f = f ∙ ap (λ (p : Place). place_at (past p) s) e
 
 -- the answer
 pub shape_long : (s : Bytes) → 65536 < length s → Bad ≡ shape_of s
@@ -89,16 +89,16 @@ unfolding shape_of well_formed
 shape_long s h = simp (lt-leb (length s) 65536 h)
 
 module _ (s : Bytes) (h : length s ≤ 65536) (r : Bool) (e : r ≡ good_blocks 5 1 s) where
-  well-is : well_formed s ≡ r
+  well_is : well_formed s ≡ r
   unfolding well_formed
-  well-is = ap (λ (b : Bool). b && good_blocks 5 1 s) (le-leb (length s) 65536 h) ∙ sym e
+  well_is = ap (λ (b : Bool). b && good_blocks 5 1 s) (le-leb (length s) 65536 h) ∙ sym e
 
   pub shape_no : r ≡ false → Bad ≡ shape_of s
   unfolding shape_of
-  shape_no t = simp (well-is, t)
+  shape_no t = simp (well_is, t)
 
-  pub well-told : r ≡ true → well_formed s ≡ true
-  well-told t = well-is ∙ t
+  pub well_told : r ≡ true → well_formed s ≡ true
+  well_told t = well_is ∙ t
 
 pub shape_yes : (s : Bytes) → well_formed s ≡ true → (a b c d f : Place) → a ≡ place_of 1 s → b ≡ place_of 2 s → c ≡ place_of 3 s → d ≡ place_of 4 s → f ≡ place_of 5 s
     → Good (record { one = a; two = b; three = c; four = d; five = f }) ≡ shape_of s
@@ -129,4 +129,4 @@ pub blocks_there : (s : Bytes) (p : Places) → p ≡ places_of s
 unfolding blocks_of places_of
 blocks_there s p e =
     ap (λ (q : Places). record { one = lines_at q.one s; two = lines_at q.two s; three = lines_at q.three s; four = lines_at q.four s; five = lines_at q.five s }) e
-    ∙ (λ i. record { one = lines-there 0 s i; two = lines-there 1 s i; three = lines-there 2 s i; four = lines-there 3 s i; five = lines-there 4 s i })
+    ∙ (λ i. record { one = lines_there 0 s i; two = lines_there 1 s i; three = lines_there 2 s i; four = lines_there 3 s i; five = lines_there 4 s i })

@@ -47,27 +47,27 @@ kind_fits r = by (fits (named r) (length r)) refl
     by false e = refl
 
 -- of a kind that is asked for
-pub kind-length : (K : Kind) (w : ℕ) (r : Bytes) → fits K (length r) ≡ eqb (length r) w → is K (kind_of r) ≡ true → length r ≡ w
-kind-length K w r f h = eqb-true (length r) w (sym f ∙ ap (λ (k : Kind). fits k (length r)) (sym (is_eq K (kind_of r) h)) ∙ kind_fits r)
+pub kind_length : (K : Kind) (w : ℕ) (r : Bytes) → fits K (length r) ≡ eqb (length r) w → is K (kind_of r) ≡ true → length r ≡ w
+kind_length K w r f h = eqb-true (length r) w (sym f ∙ ap (λ (k : Kind). fits k (length r)) (sym (is_eq K (kind_of r) h)) ∙ kind_fits r)
 
 -- a record is of its kind by its id, form number and length, whatever else stands in it
-pub kind-form : (r : Bytes) → part 8 6 r ≡ bytes "FRM   " → part 14 6 r ≡ bytes "4868  " → length r ≡ 384 → kind_of r ≡ Form
+pub kind_form : (r : Bytes) → part 8 6 r ≡ bytes "FRM   " → part 14 6 r ≡ bytes "4868  " → length r ≡ 384 → kind_of r ≡ Form
 unfolding kind_of named named_form
-kind-form r i f n = rw (i, f, n)
+kind_form r i f n = rw (i, f, n)
 
-pub kind-payment : (r : Bytes) → part 8 6 r ≡ bytes "FRM   " → part 14 6 r ≡ bytes "PMT   " → length r ≡ 123 → kind_of r ≡ Payment
+pub kind_payment : (r : Bytes) → part 8 6 r ≡ bytes "FRM   " → part 14 6 r ≡ bytes "PMT   " → length r ≡ 123 → kind_of r ≡ Payment
 unfolding kind_of named named_form
-kind-payment r i f n = rw (i, f, n)
+kind_payment r i f n = rw (i, f, n)
 
-pub kind-auth : (r : Bytes) → part 8 6 r ≡ bytes "ATH   " → length r ≡ 340 → kind_of r ≡ Auth
+pub kind_auth : (r : Bytes) → part 8 6 r ≡ bytes "ATH   " → length r ≡ 340 → kind_of r ≡ Auth
 unfolding kind_of named
-kind-auth r i n = rw (i, n)
+kind_auth r i n = rw (i, n)
 
-pub kind-summary : (r : Bytes) → part 8 6 r ≡ bytes "SUM   " → length r ≡ 314 → kind_of r ≡ Summary
+pub kind_summary : (r : Bytes) → part 8 6 r ≡ bytes "SUM   " → length r ≡ 314 → kind_of r ≡ Summary
 unfolding kind_of named
-kind-summary r i n = rw (i, n)
+kind_summary r i n = rw (i, n)
 
 -- what is out of order stays so
-pub broken-stays : (rs : List Bytes) → ordered Broken rs ≡ Broken
-broken-stays [] = refl
-broken-stays (r ∷ rs) = broken-stays rs
+pub broken_stays : (rs : List Bytes) → ordered Broken rs ≡ Broken
+broken_stays [] = refl
+broken_stays (r ∷ rs) = broken_stays rs

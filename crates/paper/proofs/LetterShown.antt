@@ -61,12 +61,12 @@ by_letter A = refl
 by_letter R = refl
 by_letter D = refl
 
-none-shown : same (field LKey 50 []) (bytes "A") ≡ false
+none_shown : same (field LKey 50 []) (bytes "A") ≡ false
 unfolding field entry ack_key
-none-shown = refl
+none_shown = refl
 
 -- of each place in a row of record sets
-pub letters-shown : (ts : List Turn) (n : ℕ) → same (field LKey 50 (get_or (map set_of ts) n [])) (bytes "A") ≡ is_a (get_or (map letter_of ts) n R)
-letters-shown [] n = none-shown
-letters-shown (t ∷ ts) zero = ap (λ (s : Bytes). same s (bytes "A")) (letter_shown t) ∙ by_letter (letter_of t)
-letters-shown (t ∷ ts) (suc n) = letters-shown ts n
+pub letters_shown : (ts : List Turn) (n : ℕ) → same (field LKey 50 (get_or (map set_of ts) n [])) (bytes "A") ≡ is_a (get_or (map letter_of ts) n R)
+letters_shown [] n = none_shown
+letters_shown (t ∷ ts) zero = ap (λ (s : Bytes). same s (bytes "A")) (letter_shown t) ∙ by_letter (letter_of t)
+letters_shown (t ∷ ts) (suc n) = letters_shown ts n

@@ -10,15 +10,15 @@ use Rattle.paper.specs.Walk.{Parsed, parsed_of, parsed_if, parse, records, sound
 use Rattle.paper.specs.File.{Outcome, rejected, outcome_by, turns_of, outcome_of, outcome}
 use Rattle.paper.proofs.Laws.{both}
 
-pub sound-ended : (rs : List Bytes) → sound rs ≡ true → is_ended (ordered First rs) ≡ true
+pub sound_ended : (rs : List Bytes) → sound rs ≡ true → is_ended (ordered First rs) ≡ true
 unfolding sound
-sound-ended rs e = (both _ _ (both _ _ (both _ _ e).0).0).0
+sound_ended rs e = (both _ _ (both _ _ (both _ _ e).0).0).0
 
 -- what becomes of a transmission: 0823 holds, or else 0822 and 0840 decide
-pub outcome-cases : (P : Outcome → Type 0) (L : Lines) (date t : Bytes) → P (rejected (zeros 16) C0823)
+pub outcome_cases : (P : Outcome → Type 0) (L : Lines) (date t : Bytes) → P (rejected (zeros 16) C0823)
     → (sound (records t) ≡ true → (x y : Bool) → P (outcome_by x y (parsed_of (records t)) (turns_of L date (parsed_of (records t))))) → P (outcome L date t)
 unfolding outcome parse
-outcome-cases P L date t broken either = by (sound (records t)) refl
+outcome_cases P L date t broken either = by (sound (records t)) refl
   where
     p : Parsed
     p = parsed_of (records t)

@@ -27,12 +27,12 @@ use Rattle.paper.specs.File.{on_auth, set_of, code_list, recap_record, Outcome, 
 use Rattle.paper.specs.Answer.{file_name, prescribed, room_for, refusal_of, refused_or, answer, refusal_number, number_of, length_of, coded}
 use Rattle.paper.specs.Room.{need, set_records, all_records, file_records, InRecords, enough, AtMost, NeverShort, ExactNeed, NoNeed, ToldApart, AnswersApart, NeedReads}
 use Rattle.paper.proofs.Laws.{never}
-use Rattle.paper.proofs.KindLaws.{kind-length}
-use Rattle.paper.proofs.Records.{starts_bounds, records-end, records-more, records-none, record-length, along}
+use Rattle.paper.proofs.KindLaws.{kind_length}
+use Rattle.paper.proofs.Records.{starts_bounds, records_end, records_more, records_none, record_length, along}
 use Rattle.paper.proofs.RecordSizes.{length-recap, length-set_by, length-rejection}
-use Rattle.paper.proofs.Widths.{first-trana, second-tranb}
-use Rattle.paper.proofs.Numbers.{number-plain}
-use Rattle.paper.proofs.Outcomes.{sound-ended, outcome-cases}
+use Rattle.paper.proofs.Widths.{first_trana, second_tranb}
+use Rattle.paper.proofs.Numbers.{number_plain}
+use Rattle.paper.proofs.Outcomes.{sound_ended, outcome_cases}
 
 -- WHAT DOCUMENTS WEIGH
 
@@ -45,27 +45,27 @@ unfolding kind_of named
 docs_weigh s = along (λ (x : Bytes). weight (docs_of (records x)) ≤ length x) none more stop s
   where
     none : weight (docs_of (records [])) ≤ 0
-    none = rw records-end (omega arith)
+    none = rw records_end (omega arith)
 
     one : (r : Bytes) (rs : List Bytes) (n : ℕ) → 43 ≤ length r → weight (docs_of rs) ≤ n → weight (docs_of (r ∷ rs)) ≤ length r + n
     one r rs n h ih = by (opens (kind_of r)) (is Form (kind_of r)) refl
       where
         by : (b f : Bool) → is Form (kind_of r) ≡ f → weight (cond b (record { main = r; others = own rs } ∷ docs_of rs) (docs_of rs)) ≤ length r + n
         by false f e = omega arith
-        by true true e = rw e (omega (arith, kind-length Form 384 r refl e))
+        by true true e = rw e (omega (arith, kind_length Form 384 r refl e))
         by true false e = rw e (omega arith)
 
     more : (x : Bytes) → starts x ≡ true → weight (docs_of (records (drop (count_of x) x))) ≤ length (drop (count_of x) x) → weight (docs_of (records x)) ≤ length x
     more x h ih =
-        let long : length (take (count_of x) x) ≡ count_of x = record-length x h in
+        let long : length (take (count_of x) x) ≡ count_of x = record_length x h in
         let a = one (take (count_of x) x) (records (drop (count_of x) x)) (length (drop (count_of x) x)) (omega (arith, (starts_bounds x h).0)) ih in
-        rw (records-more x h) (omega (arith, a, length-drop (count_of x) x, (starts_bounds x h).1))
+        rw (records_more x h) (omega (arith, a, length-drop (count_of x) x, (starts_bounds x h).1))
 
     stop : (x : Bytes) → 0 < length x → starts x ≡ false → weight (docs_of (records x)) ≤ length x
-    stop x l h = rw (records-none x l h) (omega arith)
+    stop x l h = rw (records_none x l h) (omega arith)
 
-those-one : (p : ℕ → Bool) (x : ℕ) → length (those p (x ∷ [])) ≤ 1
-those-one p x = by (p x)
+those_one : (p : ℕ → Bool) (x : ℕ) → length (those p (x ∷ [])) ≤ 1
+those_one p x = by (p x)
   where
     by : (b : Bool) → length (cond b (x ∷ []) []) ≤ 1
     by true = omega arith
@@ -76,16 +76,16 @@ finds_one : (k : Kind) (v : View) → opens k ≡ true → is Form k ≡ false �
 finds_one TranA v o f = absurd (never o)
 finds_one TranB v o f = absurd (never o)
 finds_one Form v o f = absurd (never (sym f))
-finds_one Unknown v o f = omega (arith, length-map (those (holds Unknown v) (rules_of Unknown)) (mark Unknown v.own), those-one (holds Unknown v) 44)
+finds_one Unknown v o f = omega (arith, length-map (those (holds Unknown v) (rules_of Unknown)) (mark Unknown v.own), those_one (holds Unknown v) 44)
 finds_one Payment v o f = absurd (never o)
 finds_one Auth v o f = absurd (never o)
 finds_one Summary v o f = absurd (never o)
 finds_one Recap v o f = absurd (never o)
 finds_one Stray v o f = absurd (never o)
 
-pub forms-few : (ds : List Doc) → count known ds ≤ length ds
-forms-few [] = omega arith
-forms-few (d ∷ ds) = by (known d) (forms-few ds)
+pub forms_few : (ds : List Doc) → count known ds ≤ length ds
+forms_few [] = omega arith
+forms_few (d ∷ ds) = by (known d) (forms_few ds)
   where
     by : (b : Bool) → count known ds ≤ length ds → bit b + count known ds ≤ suc (length ds)
     by true ih = omega arith
@@ -115,16 +115,16 @@ module _ (L : Lines) (date : Bytes) where
       omega (arith, length-append (finds_in k v) (rest (known d)), finds_one k v o f)
 
   -- a Key and 96 Error records at most; of an unknown form one Error record
-  set-most : (b : Before) (d : Doc) → opens (kind_of d.main) ≡ true → set_records (turn date b (asked L d)) ≤ 2 + 95 * bit (known d)
-  set-most b d o = by (known d) refl
+  set_most : (b : Before) (d : Doc) → opens (kind_of d.main) ≡ true → set_records (turn date b (asked L d)) ≤ 2 + 95 * bit (known d)
+  set_most b d o = by (known d) refl
     where
       by : (k : Bool) → known d ≡ k → set_records (turn date b (asked L d)) ≤ 2 + 95 * bit k
       by true e = omega arith
       by false e = omega (arith, unknown_few b d o e)
 
-  pub sets-most : (b : Before) (rs : List Bytes) → all_records (turns date b (map (asked L) (docs_of rs))) ≤ 2 * length (docs_of rs) + 95 * count known (docs_of rs)
-  sets-most b [] = omega arith
-  sets-most b (r ∷ rs) = by (λ x. sets-most x rs) (opens (kind_of r)) refl
+  pub sets_most : (b : Before) (rs : List Bytes) → all_records (turns date b (map (asked L) (docs_of rs))) ≤ 2 * length (docs_of rs) + 95 * count known (docs_of rs)
+  sets_most b [] = omega arith
+  sets_most b (r ∷ rs) = by (λ x. sets_most x rs) (opens (kind_of r)) refl
     where
       d : Doc
       d = record { main = r; others = own rs }
@@ -132,11 +132,11 @@ module _ (L : Lines) (date : Bytes) where
       by : ((x : Before) → all_records (turns date x (map (asked L) (docs_of rs))) ≤ 2 * length (docs_of rs) + 95 * count known (docs_of rs)) → (o : Bool) → opens (kind_of r) ≡ o
           → all_records (turns date b (map (asked L) (cond o (d ∷ docs_of rs) (docs_of rs)))) ≤ 2 * length (cond o (d ∷ docs_of rs) (docs_of rs)) + 95 * count known (cond o (d ∷ docs_of rs) (docs_of rs))
       by ih false e = ih b
-      by ih true e = omega (arith, set-most b d e, ih (after (turn date b (asked L d))))
+      by ih true e = omega (arith, set_most b d e, ih (after (turn date b (asked L d))))
 
   -- of all documents of a transmission
-  pub sets-few : (t : Bytes) → length (joined (map set_of (turns_of L date (parsed_of (records t))))) ≤ 31 * length t
-  sets-few t = omega (arith, length-sets (turns_of L date (parsed_of (records t))), sets-most start (records t), docs_weigh t, forms-few (docs_of (records t)))
+  pub sets_few : (t : Bytes) → length (joined (map set_of (turns_of L date (parsed_of (records t))))) ≤ 31 * length t
+  sets_few t = omega (arith, length-sets (turns_of L date (parsed_of (records t))), sets_most start (records t), docs_weigh t, forms_few (docs_of (records t)))
 
 -- THE FILE
 
@@ -147,7 +147,7 @@ length-judged name rs ts h =
     let sets = joined (map set_of ts) in
     let recap = recap_record p.recap (twelve p.trana) (accepted_in ts) (length ts) name in
     length-append (p.trana ++ p.tranb ++ sets) recap
-    ∙ omega (arith, length-append (p.trana ++ p.tranb) sets, length-append p.trana p.tranb, first-trana rs (sound-ended rs h), second-tranb rs (sound-ended rs h), length-recap p.recap (twelve p.trana) (accepted_in ts) (length ts) name)
+    ∙ omega (arith, length-append (p.trana ++ p.tranb) sets, length-append p.trana p.tranb, first_trana rs (sound_ended rs h), second_tranb rs (sound_ended rs h), length-recap p.recap (twelve p.trana) (accepted_in ts) (length ts) name)
 
 module _ (L : Lines) (date name t : Bytes) where
   abbrev p : Parsed
@@ -173,11 +173,11 @@ module _ (L : Lines) (date name t : Bytes) where
       let size = length-judged name (records t) ts h in
       record {
         whole = omega (arith, size, length-sets ts);
-        few = omega (arith, size, sets-few L date t);
+        few = omega (arith, size, sets_few L date t);
       }
 
   file_measured : Measured (outcome L date t)
-  file_measured = outcome-cases Measured L date t (rejected_measured _ _) either
+  file_measured = outcome_cases Measured L date t (rejected_measured _ _) either
     where
       either : sound (records t) ≡ true → (x y : Bool) → Measured (outcome_by x y p (turns_of L date p))
       either h true true = rejected_measured _ _
@@ -215,9 +215,9 @@ module _ (t pack date name : Bytes) where
       by false false true = omega arith
       by false false false = omega arith
 
-  pub not-refused : refusal_of t pack date name ≡ none → (length t ≤ 65536) × (well_formed pack ≡ true)
+  pub not_refused : refusal_of t pack date name ≡ none → (length t ≤ 65536) × (well_formed pack ≡ true)
   unfolding refusal_of
-  not-refused e = by (ltb 65536 (length t)) refl (well_formed pack) e
+  not_refused e = by (ltb 65536 (length t)) refl (well_formed pack) e
     where
       by : (a : Bool) → ltb 65536 (length t) ≡ a → (b : Bool)
           → cond a (some LongTransmission) (cond (not b) (some BadPack) (cond (not (valid_date date && file_name name)) (some BadDateOrName) none)) ≡ none
@@ -245,7 +245,7 @@ module _ (t pack date name : Bytes) where
 
   small : (q : Option Refusal) (a : Answer) → refusal_of t pack date name ≡ q → length_of a ≤ length file → length_of (refused_or q a) < 4294967296
   small (some q) a e h = omega arith
-  small none a e h = omega (arith, (not-refused e).0, at_most t pack date name)
+  small none a e h = omega (arith, (not_refused e).0, at_most t pack date name)
 
   at_longest : (n : ℕ) → length_of (room_for n file) ≤ length file
   at_longest n = by (ltb n (length file))
@@ -254,17 +254,17 @@ module _ (t pack date name : Bytes) where
       by true = omega arith
       by false = omega arith
 
-pub exact-need : ExactNeed
+pub exact_need : ExactNeed
 unfolding need answer
-exact-need t pack date name k n e = exact t pack date name (refusal_of t pack date name) k n e
+exact_need t pack date name k n e = exact t pack date name (refusal_of t pack date name) k n e
 
-pub no-need : NoNeed
+pub no_need : NoNeed
 unfolding need answer
-no-need t pack date name r n e = alike t pack date name (refusal_of t pack date name) r n e (first_three t pack date name)
+no_need t pack date name r n e = alike t pack date name (refusal_of t pack date name) r n e (first_three t pack date name)
 
-pub never-short : NeverShort
+pub never_short : NeverShort
 unfolding answer
-never-short t pack date name n h e =
+never_short t pack date name n h e =
     let l = roomy t pack date name (refusal_of t pack date name) n (omega (arith, at_most t pack date name)) (first_three t pack date name) in
     let z : number_of (refused_or (refusal_of t pack date name) (room_for n (prescribed t pack date name))) ≡ 4 = ap number_of e in
     omega arith
@@ -273,16 +273,16 @@ apart : (a : Answer) → length_of a < 4294967296 → ToldApart a
 unfolding coded
 apart a h = (omega arith, omega arith)
 
-pub answers-apart : AnswersApart
+pub answers_apart : AnswersApart
 unfolding need answer
-answers-apart t pack date name n =
+answers_apart t pack date name n =
     let q = refusal_of t pack date name in
     (apart _ (small t pack date name q _ refl (at_longest t pack date name n)), apart _ (small t pack date name q (File _) refl (omega arith)))
 
-pub need-reads : NeedReads
+pub need_reads : NeedReads
 unfolding need
-need-reads t pack date name k e = number-plain 7 k (omega (arith, small-need (refusal_of t pack date name) refl e))
+need_reads t pack date name k e = number_plain 7 k (omega (arith, small_need (refusal_of t pack date name) refl e))
   where
-    small-need : (q : Option Refusal) → refusal_of t pack date name ≡ q → refused_or q (File (length (prescribed t pack date name))) ≡ File k → k < 10000000
-    small-need (some q) l e = let z : ◌≡◌ {A = ℕ} 0 1 = cc in absurd (omega arith)
-    small-need none l e = let q : length (prescribed t pack date name) ≡ k = ap length_of e in omega (arith, (not-refused t pack date name l).0, at_most t pack date name)
+    small_need : (q : Option Refusal) → refusal_of t pack date name ≡ q → refused_or q (File (length (prescribed t pack date name))) ≡ File k → k < 10000000
+    small_need (some q) l e = let z : ◌≡◌ {A = ℕ} 0 1 = cc in absurd (omega arith)
+    small_need none l e = let q : length (prescribed t pack date name) ≡ k = ap length_of e in omega (arith, (not_refused t pack date name l).0, at_most t pack date name)

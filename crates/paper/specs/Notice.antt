@@ -20,8 +20,8 @@ without_births pack = map without_birth (lines_in (width_of taxpayers) (block (b
 
 -- two well-formed packs that differ only in birth dates
 pub record ButBirths (p q : Bytes) : Type 0 where
-  pub first-well : well_formed p ≡ true
-  pub second-well : well_formed q ≡ true
+  pub first_well : well_formed p ≡ true
+  pub second_well : well_formed q ≡ true
   pub lines : without_births p ≡ without_births q
   pub others : (k : ℕ) → 2 ≤ k → k ≤ 5 → block (blocks_of p) k ≡ block (blocks_of q) k
 

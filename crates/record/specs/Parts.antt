@@ -46,6 +46,6 @@ unfoldable pub error_by : Bytes → ℕ → ℕ → Bytes
 error_by model n text = laid (laid model (entry LError 30).start (written 2 n)) (entry LError 80).start (bytes_of 8 text)
 
 -- a record at a place of an output; where its 120 bytes do not fit whole, nothing is changed
--- tied to the paper by `not-placed` and `lent_placed` of record/Laws
+-- tied to the paper by `not_placed` and `lent_placed` of record/Laws
 unfoldable pub placed : Bytes → ℕ → Bytes → Bytes
 placed out at r = cond (leb (at + 120) (length out)) (laid out at r) out

@@ -10,7 +10,7 @@ use Rattle.paper.specs.Layouts.{field}
 use Rattle.paper.specs.File.{key_record, pin_byte, date_for, literal_for}
 
 -- a field of so many bytes that holds this number, in zeros where it is none
--- tied to the paper by `shown-said` of recordset/Laws
+-- tied to the paper by `shown_said` of recordset/Laws
 abbrev pub shown_as : ℕ → ℕ → Bytes → Bytes
 shown_as number n f = cond (eqb number 0) (zeros n) f
 

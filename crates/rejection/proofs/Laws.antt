@@ -63,12 +63,12 @@ pub errors_are : (codes : Codes) (row : List ℕ) (errors : ℕ) → row ≡ cod
 errors_are codes row errors er ee = ee ∙ codes_count (get_or row 0 0) (get_or row 1 0) (code_list codes) (row_codes codes row 0 er)
 
 -- the room for one code, and for two
-pub one-fits : (b : Bool) (n : ℕ) → 120 + 120 * cond b 1 2 ≤ n → 240 ≤ n
-one-fits true n h = omega arith
-one-fits false n h = omega arith
+pub one_fits : (b : Bool) (n : ℕ) → 120 + 120 * cond b 1 2 ≤ n → 240 ≤ n
+one_fits true n h = omega arith
+one_fits false n h = omega arith
 
-pub two-fit : (b : Bool) (n m : ℕ) → b ≡ false → 120 + 120 * cond b 1 2 ≤ n → m ≡ n → 360 ≤ m
-two-fit b n m e h l = let k : 120 + 120 * cond b 1 2 ≡ 360 = ap (λ (c : Bool). 120 + 120 * cond c 1 2) e in omega arith
+pub two_fit : (b : Bool) (n m : ℕ) → b ≡ false → 120 + 120 * cond b 1 2 ≤ n → m ≡ n → 360 ≤ m
+two_fit b n m e h l = let k : 120 + 120 * cond b 1 2 ≡ 360 = ap (λ (c : Bool). 120 + 120 * cond c 1 2) e in omega arith
 
 module _ (out o : Bytes) (first second : ℕ) (v : o ≡ laid out 120 (error_for 1 first)) where
   pub one_code : eqb second 0 ≡ true → o ≡ laid out 120 (whole_errors 1 (codes_by first second))
@@ -85,13 +85,13 @@ module _ (sequence : Bytes) (codes : Codes) where
   abbrev key : ℕ → Bytes
   key n = key_record (zeros 9) sequence (Whole codes) 32 (zeros 8) (zeros 14) n (blanks 15) 48
 
-  pub rejection-size : (n : ℕ) → n ≡ 120 + 120 * length (code_list codes) → n ≡ length (rejection sequence codes)
-  rejection-size n e = omega (arith, length-rejection sequence codes)
+  pub rejection_size : (n : ℕ) → n ≡ 120 + 120 * length (code_list codes) → n ≡ length (rejection sequence codes)
+  rejection_size n e = omega (arith, length-rejection sequence codes)
 
-  pub rejection-laid : (n : ℕ) (out o o' : Bytes) → n ≡ length (code_list codes) → o ≡ laid out 0 (key n) → o' ≡ laid o 120 (whole_errors 1 (code_list codes))
+  pub rejection_laid : (n : ℕ) (out o o' : Bytes) → n ≡ length (code_list codes) → o ≡ laid out 0 (key n) → o' ≡ laid o 120 (whole_errors 1 (code_list codes))
       → o' ≡ laid out 0 (rejection sequence codes)
   unfolding rejection
-  rejection-laid n out o o' en e1 e2 =
+  rejection_laid n out o o' en e1 e2 =
       let m = length (code_list codes) in
       let q : key n ≡ key m = ap key en in
       let h : 120 ≡ 0 + length (key m) = omega (arith, length-key (zeros 9) sequence (Whole codes) 32 (zeros 8) (zeros 14) m (blanks 15) 48) in

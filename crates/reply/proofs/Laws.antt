@@ -36,9 +36,9 @@ module _ (t pack date name : Bytes) (room : ℕ) where
       by none true e = cc
       by none false e = cc
 
-  pub shows-file : (a : Answer) (n : ℕ) (out out' : Bytes) → a ≡ answer t pack date name room → a ≡ File n → out' ≡ left_by a file out
+  pub shows_file : (a : Answer) (n : ℕ) (out out' : Bytes) → a ≡ answer t pack date name room → a ≡ File n → out' ≡ left_by a file out
       → (n ≡ length (shown (answer t pack date name room) file)) × (out' ≡ laid out 0 (shown (answer t pack date name room) file))
-  shows-file a n out out' ea en eo =
+  shows_file a n out out' ea en eo =
       let e : answer t pack date name room ≡ File n = sym ea ∙ en in
       (rw e (same_length n e), rw e (rw en at eo))
 
@@ -53,9 +53,9 @@ module _ (t pack date name : Bytes) (room : ℕ) where
 
 -- THE NEED, a
 
-pub tells-number : (a need : Answer) (n k : ℕ) (out out' : Bytes) → a ≡ need → a ≡ File n → k ≡ length (plain 7 n ++ 10 ∷ []) → out' ≡ laid out 0 (plain 7 n ++ 10 ∷ [])
+pub tells_number : (a need : Answer) (n k : ℕ) (out out' : Bytes) → a ≡ need → a ≡ File n → k ≡ length (plain 7 n ++ 10 ∷ []) → out' ≡ laid out 0 (plain 7 n ++ 10 ∷ [])
     → (k ≡ length (need_shown need)) × (out' ≡ laid out 0 (need_shown need))
-tells-number a need n k out out' ea en ek eo =
+tells_number a need n k out out' ea en ek eo =
     let e : File n ≡ need = sym en ∙ ea in
     (ek ∙ ap (λ (x : Answer). length (need_shown x)) e, eo ∙ ap (λ (x : Answer). laid out 0 (need_shown x)) e)
 
@@ -76,34 +76,34 @@ asked_as x y t pack date name n k out out' e ek eo =
 -- A NUMBER'S OWN DIGITS
 
 module _ (w n : ℕ) where
-  pub leads-here : 0 < w → n < 10 → leads w n ≡ w - 1
-  leads-here h l = by w h
+  pub leads_here : 0 < w → n < 10 → leads w n ≡ w - 1
+  leads_here h l = by w h
     where
       by : (k : ℕ) → 0 < k → leads k n ≡ k - 1
       by zero h = absurd (omega arith)
       by (suc k) h = rw (lt-ltb n 10 l) (omega arith)
 
-  pub leads-on : 0 < w → 10 ≤ n → leads w n ≡ leads (w - 1) (n / 10)
-  leads-on h l = by w h
+  pub leads_on : 0 < w → 10 ≤ n → leads w n ≡ leads (w - 1) (n / 10)
+  leads_on h l = by w h
     where
       by : (k : ℕ) → 0 < k → leads k n ≡ leads (k - 1) (n / 10)
       by zero h = absurd (omega arith)
       by (suc k) h = let z : suc k - 1 ≡ k = omega arith in rw (le-ltb n 10 l, z)
 
-  pub leads-end : w ≤ 0 → leads w n ≡ 0
-  leads-end h = ap (λ (k : ℕ). leads k n) (let z : w ≡ 0 = omega arith in z)
+  pub leads_end : w ≤ 0 → leads w n ≡ 0
+  leads_end h = ap (λ (k : ℕ). leads k n) (let z : w ≡ 0 = omega arith in z)
 
-leads-few : (w n : ℕ) → leads w n ≤ w
-leads-few zero n = omega arith
-leads-few (suc w) n = by (ltb n 10) (leads-few w (n / 10))
+leads_few : (w n : ℕ) → leads w n ≤ w
+leads_few zero n = omega arith
+leads_few (suc w) n = by (ltb n 10) (leads_few w (n / 10))
   where
     by : (b : Bool) → leads w (n / 10) ≤ w → cond b w (leads w (n / 10)) ≤ suc w
     by true h = omega arith
     by false h = omega arith
 
-plain-drop : (w n : ℕ) → plain w n ≡ drop (leads w n) (written w n)
-plain-drop zero n = refl
-plain-drop (suc w) n = by (ltb n 10) refl (plain-drop w (n / 10))
+plain_drop : (w n : ℕ) → plain w n ≡ drop (leads w n) (written w n)
+plain_drop zero n = refl
+plain_drop (suc w) n = by (ltb n 10) refl (plain_drop w (n / 10))
   where
     last : Bytes
     last = (n % 10 + 48) ∷ []
@@ -117,22 +117,22 @@ plain-drop (suc w) n = by (ltb n 10) refl (plain-drop w (n / 10))
         let l : n ≡ n % 10 = omega (arith, ltb-true n 10 e) in
         ap (λ (x : ℕ). (x + 48) ∷ []) l ∙ sym (drop-append_seam front last) ∙ ap (λ (k : ℕ). drop k (front ++ last)) (length-written w (n / 10))
     by false e ih =
-        let f : leads w (n / 10) ≤ length front = omega (arith, leads-few w (n / 10), length-written w (n / 10)) in
+        let f : leads w (n / 10) ≤ length front = omega (arith, leads_few w (n / 10), length-written w (n / 10)) in
         ap (λ (x : Bytes). x ++ last) ih ∙ sym (drop-append-le (leads w (n / 10)) front last f)
 
 -- a line of eight bytes from there on: the number and the line end
 module _ (n from : ℕ) (line : Bytes) (el : line ≡ written 7 n ++ 10 ∷ []) (ef : from ≡ leads 7 n) where
   rest : drop from line ≡ plain 7 n ++ 10 ∷ []
   rest =
-      let f : leads 7 n ≤ length (written 7 n) = omega (arith, leads-few 7 n, length-written 7 n) in
-      (λ i. drop (ef i) (el i)) ∙ drop-append-le (leads 7 n) (written 7 n) (10 ∷ []) f ∙ ap (λ (x : Bytes). x ++ 10 ∷ []) (sym (plain-drop 7 n))
+      let f : leads 7 n ≤ length (written 7 n) = omega (arith, leads_few 7 n, length-written 7 n) in
+      (λ i. drop (ef i) (el i)) ∙ drop-append-le (leads 7 n) (written 7 n) (10 ∷ []) f ∙ ap (λ (x : Bytes). x ++ 10 ∷ []) (sym (plain_drop 7 n))
 
-  pub rest-long : 8 - from ≡ length (plain 7 n ++ 10 ∷ [])
-  rest-long =
+  pub rest_long : 8 - from ≡ length (plain 7 n ++ 10 ∷ [])
+  rest_long =
       let wide : length line ≡ 8 = ap length el in
       omega (arith, ap length rest, length-drop from line)
 
-  pub rest-laid : (out out' : Bytes) → out' ≡ laid out 0 (take (8 - from) (drop from line)) → out' ≡ laid out 0 (plain 7 n ++ 10 ∷ [])
-  rest-laid out out' e =
-      let whole : length (drop from line) ≤ 8 - from = omega (arith, ap length rest, rest-long) in
+  pub rest_laid : (out out' : Bytes) → out' ≡ laid out 0 (take (8 - from) (drop from line)) → out' ≡ laid out 0 (plain 7 n ++ 10 ∷ [])
+  rest_laid out out' e =
+      let whole : length (drop from line) ≤ 8 - from = omega (arith, ap length rest, rest_long) in
       e ∙ ap (laid out 0) (take_all (8 - from) (drop from line) whole ∙ rest)

@@ -23,17 +23,17 @@ use Rattle.paper.specs.Judge.{Turn}
 use Rattle.paper.specs.File.{Outcome, rejected, judged, outcome_by, turns_of, outcome_of, outcome}
 use Rattle.paper.specs.Answer.{file_name, refusal_of}
 use Rattle.paper.specs.Hidden.{outcome_with}
-use Rattle.paper.proofs.Laws.{part-take}
-use Rattle.paper.proofs.Widths.{twelve-wide}
-use Rattle.paper.proofs.Outcomes.{sound-ended, outcome-cases}
-use Rattle.paper.proofs.Room.{not-refused}
+use Rattle.paper.proofs.Laws.{part_take}
+use Rattle.paper.proofs.Widths.{twelve_wide}
+use Rattle.paper.proofs.Outcomes.{sound_ended, outcome_cases}
+use Rattle.paper.proofs.Room.{not_refused}
 use Rattle.pack.specs.declared.Places.{Places}
 use Rattle.pack.specs.declared.Shape.{Shape}
 use Rattle.pack.specs.declared.Shape.TheVariants.{Good, Bad}
 use Rattle.pack.specs.Shape.{lines_at, places_of, shape_of as packShape}
 use Rattle.pack.proofs.Laws.{shape_good, shape_bad, blocks_there}
 use Rattle.lookup.specs.Find.{line_in}
-use Rattle.lookup.proofs.Laws.{sent-sought, sought-lines}
+use Rattle.lookup.proofs.Laws.{sent_sought, sought_lines}
 use Rattle.walk.specs.declared.Outer.{Outer}
 use Rattle.walk.specs.declared.Outer.TheVariants.{Rejected, Sound}
 use Rattle.walk.specs.Shape.{shape_of}
@@ -48,18 +48,18 @@ use Rattle.route.specs.Way.{way_of, refuse_or, route_of, by_marks, by_digits, se
 padded_twelve : (t : Bytes) → sound (records t) ≡ true → twelve (get_or (records t) 0 []) ++ bytes "0000" ≡ laid (zeros 16) 0 (twelve t)
 unfolding laid twelve through entry trana
 padded_twelve t h =
-    let first : twelve (get_or (records t) 0 []) ≡ twelve t = ap twelve (sound_parts t h).trana ∙ part-take 120 83 12 t (omega arith) in
-    let size : length (twelve t) ≡ 12 = ap length (sym first) ∙ twelve-wide (records t) (sound-ended (records t) h) in
+    let first : twelve (get_or (records t) 0 []) ≡ twelve t = ap twelve (sound_parts t h).trana ∙ part_take 120 83 12 t (omega arith) in
+    let size : length (twelve t) ≡ 12 = ap length (sym first) ∙ twelve_wide (records t) (sound_ended (records t) h) in
     let fits : 0 + length (twelve t) ≤ length (zeros 16) = omega arith in
     ap (λ (d : Bytes). d ++ bytes "0000") first ∙ sym (sets-eq (twelve t) (zeros 16) 0 fits ∙ ap (λ (k : ℕ). twelve t ++ drop (0 + k) (zeros 16)) size)
 
 -- AS THE CODE FINDS IT
 
-pub digits-told : (t : Bytes) (n : ℕ) (places : Places) (sent digits again line : Bytes) (b : Bool) (r : Route) → digits ≡ through LTrana 60 80 (take 120 t)
+pub digits_told : (t : Bytes) (n : ℕ) (places : Places) (sent digits again line : Bytes) (b : Bool) (r : Route) → digits ≡ through LTrana 60 80 (take 120 t)
     → again ≡ through LRecap 40 60 (take (length t - (length t - 120)) (drop (length t - 120) t))
     → line ≡ line_in 12 digits sent → b ≡ same again digits → r ≡ by_marks (not (eqb (length line) 0)) (not b) n places → r ≡ by_digits t n places sent
 unfolding by_digits twelve twelve_again
-digits-told t n places sent digits again line b r ed ea el eb er =
+digits_told t n places sent digits again line b r ed ea el eb er =
     let ea' : again ≡ twelve_again (drop (length t - 120) t) = ea ∙ ap (through LRecap 40 60) (tail t (length t - 120)) in
     er ∙ (λ i. by_marks (not (eqb (length (el i)) 0)) (not (eb i)) n places) ∙ (λ i. by_marks (not (eqb (length (line_in 12 (ed i) sent)) 0)) (not (same (ea' i) (ed i))) n places)
 
@@ -69,8 +69,8 @@ marked true false places p ts = refl
 marked false true places p ts = refl
 marked false false places p ts = refl
 
-pub long-enough : (t : Bytes) (o : Outer) (n : ℕ) → o ≡ shape_of t → o ≡ Sound n → 120 ≤ length t
-long-enough t o n eo q = omega (arith, (sound_parts t (shape_sound t o n eo q).0).long)
+pub long_enough : (t : Bytes) (o : Outer) (n : ℕ) → o ≡ shape_of t → o ≡ Sound n → 120 ≤ length t
+long_enough t o n eo q = omega (arith, (sound_parts t (shape_sound t o n eo q).0).long)
 
 module _ (t pack date name : Bytes) where
   abbrev p : Parsed
@@ -110,18 +110,18 @@ module _ (t pack date name : Bytes) where
     unfolding outcome parse
     broken q = on (Reject C0823) (ap (λ (x : Bool). way_of (places_of pack) (outcome_of L date (parsed_if x (records t)))) (sym (shape_rejected t o eo q)))
 
-    pub by-twelve : (n : ℕ) (s : Shape) (places : Places) (sent : Bytes) (w : Route) → o ≡ Sound n → s ≡ packShape pack → s ≡ Good places → sent ≡ lines_at places.five pack
+    pub by_twelve : (n : ℕ) (s : Shape) (places : Places) (sent : Bytes) (w : Route) → o ≡ Sound n → s ≡ packShape pack → s ≡ Good places → sent ≡ lines_at places.five pack
         → w ≡ by_digits t n places sent → w ≡ route_of t pack date name
     unfolding outcome parse by_digits
-    by-twelve n s places sent w q es ep e ew =
+    by_twelve n s places sent w q es ep e ew =
         let good = shape_sound t o n eo q in
         let P = sound_parts t good.0 in
         let there = (shape_good pack places (sym es ∙ ep)).1 in
         let digits = twelve (take 120 t) in
         let five : sent ≡ (blocks_of pack).five = e ∙ ap (λ (b : Blocks). b.five) (blocks_there pack places there) in
         let found : eqb (length (line_in 12 digits sent)) 0 ≡ empty (L sent_before digits) =
-        ap (λ (b : Bytes). eqb (length (line_in 12 digits b)) 0) five ∙ sent-sought (blocks_of pack) digits
-        ∙ (λ i. empty (sought-lines pack (not-refused t pack date name none-refused).1 i sent_before digits)) in
+        ap (λ (b : Bytes). eqb (length (line_in 12 digits b)) 0) five ∙ sent_sought (blocks_of pack) digits
+        ∙ (λ i. empty (sought_lines pack (not_refused t pack date name none-refused).1 i sent_before digits)) in
         on w
         (ew ∙ (λ i. by_marks (not (found i)) (not (same (twelve_again (sym P.recap i)) digits)) (good.1 i) (there i))
         ∙ (λ i. by_marks (not (empty (L sent_before (twelve (sym P.trana i))))) (not (same (twelve_again p.recap) (twelve (sym P.trana i)))) (length p.docs) (places_of pack))
@@ -145,7 +145,7 @@ module _ (t pack date name : Bytes) where
 
   pub whole : (codes : Codes) → route_of t pack date name ≡ Reject codes → (refusal_of t pack date name ≡ none) × (outcome_with pack date t ≡ rejected (sequence_for codes t) codes)
   unfolding route_of
-  whole codes e = outcome-cases (Rejects codes) L date t (with C0823 (zeros 16) refl) either (refusal_of t pack date name) e
+  whole codes e = outcome_cases (Rejects codes) L date t (with C0823 (zeros 16) refl) either (refusal_of t pack date name) e
     where
       with : (c : Codes) (sequence : Bytes) → sequence ≡ sequence_for c t → Rejects codes (rejected sequence c)
       with c sequence es (some q) e = let z : ◌≡◌ {A = ℕ} 0 1 = cc in absurd (omega arith)
@@ -165,7 +165,7 @@ module _ (t pack date name : Bytes) where
 
   pub ready : (n : ℕ) (places : Places) → route_of t pack date name ≡ Judge n places → (refusal_of t pack date name ≡ none) × Ready t pack date n places
   unfolding route_of
-  ready n places e = outcome-cases (Judges n places) L date t (no (zeros 16) C0823) either refl (refusal_of t pack date name) refl e
+  ready n places e = outcome_cases (Judges n places) L date t (no (zeros 16) C0823) either refl (refusal_of t pack date name) refl e
     where
       no : (sequence : Bytes) (c : Codes) → Judges n places (rejected sequence c)
       no sequence c o (some q) l e = let z : ◌≡◌ {A = ℕ} 0 1 = cc in absurd (omega arith)
@@ -174,7 +174,7 @@ module _ (t pack date name : Bytes) where
       yes : sound (records t) ≡ true → Judges n places (judged p (turns_of L date p))
       yes h o (some q) l e = let z : ◌≡◌ {A = ℕ} 0 1 = cc in absurd (omega arith)
       yes h o none l e =
-          let fine = not-refused t pack date name l in
+          let fine = not_refused t pack date name l in
           (refl, record { short = fine.0; well = fine.1; there = cc; good = h; count = cc; outcome = o })
 
       either : sound (records t) ≡ true → (x y : Bool) → Judges n places (outcome_by x y p (turns_of L date p))

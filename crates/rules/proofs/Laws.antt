@@ -27,9 +27,9 @@ bit_le true = omega arith
 bit_le false = omega arith
 
 -- no rule is lost
-bit-on : (b : Bool) (t : ℕ) → t < 2 ^ 63 → bit_on b t ≡ t * 2 + bit b
+bit_on_lem : (b : Bool) (t : ℕ) → t < 2 ^ 63 → bit_on b t ≡ t * 2 + bit b
 unfolding bit_on
-bit-on b t h = ap (λ (n : ℕ). n * 2 + bit b) (mod-eq_of_lt h)
+bit_on_lem b t h = ap (λ (n : ℕ). n * 2 + bit b) (mod-eq_of_lt h)
 
 in_63 : (t n : ℕ) → t < 2 ^ n → n ≤ 63 → t < 2 ^ 63
 in_63 t n below few = let most : 2 ^ n ≤ 2 ^ 63 = pow-le-pow_right (omega arith) few in omega arith
@@ -40,12 +40,12 @@ module _ (p : ℕ → Bool) where
   bits_below (x ∷ s) few =
       let below : bits_by p s < 2 ^ length s = bits_below s (omega arith) in
       let least : bits_by p s < 2 ^ 63 = in_63 (bits_by p s) (length s) below (omega arith) in
-      omega (arith, pow-suc 2 (length s), bit_le (p x), bit-on (p x) (bits_by p s) least)
+      omega (arith, pow-suc 2 (length s), bit_le (p x), bit_on_lem (p x) (bits_by p s) least)
 
   -- a rule and the later ones
   module _ (x : ℕ) (s : List ℕ) (few : length (x ∷ s) ≤ 64) where
     split : bits_by p (x ∷ s) ≡ bits_by p s * 2 + bit (p x)
-    split = bit-on (p x) (bits_by p s) (in_63 (bits_by p s) (length s) (bits_below s (omega arith)) (omega arith))
+    split = bit_on_lem (p x) (bits_by p s) (in_63 (bits_by p s) (length s) (bits_below s (omega arith)) (omega arith))
 
     lowest : bits_by p (x ∷ s) % 2 ≡ bit (p x)
     lowest = omega (arith, split, bit_le (p x))
@@ -53,10 +53,10 @@ module _ (p : ℕ → Bool) where
     others : bits_by p (x ∷ s) / 2 ≡ bits_by p s
     others = omega (arith, split, bit_le (p x))
 
-  pub chosen-those : (rules : List ℕ) → length rules ≤ 64 → chosen (bits_by p rules) rules ≡ those p rules
-  chosen-those [] few = refl
-  chosen-those (x ∷ s) few =
-      let later : chosen (bits_by p s) s ≡ those p s = chosen-those s (omega arith) in
+  pub chosen_those : (rules : List ℕ) → length rules ≤ 64 → chosen (bits_by p rules) rules ≡ those p rules
+  chosen_those [] few = refl
+  chosen_those (x ∷ s) few =
+      let later : chosen (bits_by p s) s ≡ those p s = chosen_those s (omega arith) in
       rw (lowest x s few, others x s few, later) (by (p x))
     where
       by : (b : Bool) → cond (eqb (bit b) 1) (x ∷ those p s) (those p s) ≡ cond b (x ∷ those p s) (those p s)
@@ -82,17 +82,17 @@ module _ (p : ℕ → Bool) where
       by true = omega arith
       by false = omega arith
 
-pub few-rules : (k : Kind) → length (rules_of k) ≤ 64
+pub few_rules : (k : Kind) → length (rules_of k) ≤ 64
 unfolding form_rules payment_rules auth_rules summary_rules
-few-rules TranA = omega arith
-few-rules TranB = omega arith
-few-rules Form = omega arith
-few-rules Unknown = omega arith
-few-rules Payment = omega arith
-few-rules Auth = omega arith
-few-rules Summary = omega arith
-few-rules Recap = omega arith
-few-rules Stray = omega arith
+few_rules TranA = omega arith
+few_rules TranB = omega arith
+few_rules Form = omega arith
+few_rules Unknown = omega arith
+few_rules Payment = omega arith
+few_rules Auth = omega arith
+few_rules Summary = omega arith
+few_rules Recap = omega arith
+few_rules Stray = omega arith
 
 -- A RECORD AFTER THE FIRST
 

@@ -56,15 +56,15 @@ chosen_even m x s =
     (λ i. cond (eqb (r i) 1) (x ∷ chosen (q i) s) (chosen (q i) s))
 
 -- the rule of the lowest bit, and those of the others
-pub next-rule : (d set : ℕ) (s : List ℕ) → 0 < set → set < 2 ^ d → count_trailing_zeros d set < length s
+pub next_rule : (d set : ℕ) (s : List ℕ) → 0 < set → set < 2 ^ d → count_trailing_zeros d set < length s
     → chosen set s ≡ get_or s (count_trailing_zeros d set) 0 ∷ chosen (bit_and set (set - 1)) s
 unfolding count_trailing_zeros
-next-rule zero set s p h l = absurd (omega arith)
-next-rule (suc d) set [] p h l = absurd (omega arith)
-next-rule (suc d) set (x ∷ s) p h l =
+next_rule zero set s p h l = absurd (omega arith)
+next_rule (suc d) set [] p h l = absurd (omega arith)
+next_rule (suc d) set (x ∷ s) p h l =
     let w : set ≡ set / 2 * 2 + set % 2 = omega arith in
     let b : set / 2 < 2 ^ d = omega (arith, pow-suc 2 d) in
-    by (set % 2) refl w l (λ o f. next-rule d (set / 2) s o b f)
+    by (set % 2) refl w l (λ o f. next_rule d (set / 2) s o b f)
   where
     by : (r : ℕ) → set % 2 ≡ r → set ≡ set / 2 * 2 + r → under r (count_trailing_zeros d (set / 2)) < suc (length s)
         → (0 < set / 2 → count_trailing_zeros d (set / 2) < length s → chosen (set / 2) s ≡ get_or s (count_trailing_zeros d (set / 2)) 0 ∷ chosen (bit_and (set / 2) (set / 2 - 1)) s)
@@ -80,42 +80,42 @@ next-rule (suc d) set (x ∷ s) p h l =
     by (suc (suc r)) e w l ih = absurd (omega arith)
 
 -- a set whose lowest bit is past the table has none of its rules
-pub no-rule : (d set : ℕ) (s : List ℕ) → set < 2 ^ d → length s ≤ count_trailing_zeros d set → chosen set s ≡ []
+pub no_rule : (d set : ℕ) (s : List ℕ) → set < 2 ^ d → length s ≤ count_trailing_zeros d set → chosen set s ≡ []
 unfolding count_trailing_zeros
-no-rule d set [] h l = refl
-no-rule zero set (x ∷ s) h l = absurd (omega arith)
-no-rule (suc d) set (x ∷ s) h l =
+no_rule d set [] h l = refl
+no_rule zero set (x ∷ s) h l = absurd (omega arith)
+no_rule (suc d) set (x ∷ s) h l =
     let b : set / 2 < 2 ^ d = omega (arith, pow-suc 2 d) in
-    by (set % 2) l (λ f. no-rule d (set / 2) s b f)
+    by (set % 2) l (λ f. no_rule d (set / 2) s b f)
   where
     by : (r : ℕ) → suc (length s) ≤ under r (count_trailing_zeros d (set / 2)) → (length s ≤ count_trailing_zeros d (set / 2) → chosen (set / 2) s ≡ []) → cond (eqb r 1) (x ∷ chosen (set / 2) s) (chosen (set / 2) s) ≡ []
     by zero l ih = ih (omega arith)
     by (suc r) l ih = absurd (omega arith)
 
-pub empty-set : (s : List ℕ) → chosen 0 s ≡ []
-empty-set [] = refl
-empty-set (x ∷ s) = empty-set s
+pub empty_set : (s : List ℕ) → chosen 0 s ≡ []
+empty_set [] = refl
+empty_set (x ∷ s) = empty_set s
 
 -- no rule is written in zeros
 abbrev is_written : ℕ → Bool
 is_written rule = not (eqb (little (rule_text rule)) 3472328296227680304)
 
-pub no-zeros : (k : Kind) → every is_written (rules_of k) ≡ true
+pub no_zeros : (k : Kind) → every is_written (rules_of k) ≡ true
 unfolding rule_text form_rules payment_rules auth_rules summary_rules
-no-zeros TranA = refl
-no-zeros TranB = refl
-no-zeros Form = refl
-no-zeros Unknown = refl
-no-zeros Payment = refl
-no-zeros Auth = refl
-no-zeros Summary = refl
-no-zeros Recap = refl
-no-zeros Stray = refl
+no_zeros TranA = refl
+no_zeros TranB = refl
+no_zeros Form = refl
+no_zeros Unknown = refl
+no_zeros Payment = refl
+no_zeros Auth = refl
+no_zeros Summary = refl
+no_zeros Recap = refl
+no_zeros Stray = refl
 
-pub past-table : (s : List ℕ) (i : ℕ) → every is_written s ≡ true → little (rule_text (get_or s i 0)) ≡ 3472328296227680304 → length s ≤ i
-past-table [] i a e = omega arith
-past-table (x ∷ s) zero a e = absurd (never (sym (ap not (eq-eqb _ _ e)) ∙ (both (is_written x) (every is_written s) a).0))
-past-table (x ∷ s) (suc i) a e = let h : length s ≤ i = past-table s i (both (is_written x) (every is_written s) a).1 e in omega arith
+pub past_table : (s : List ℕ) (i : ℕ) → every is_written s ≡ true → little (rule_text (get_or s i 0)) ≡ 3472328296227680304 → length s ≤ i
+past_table [] i a e = omega arith
+past_table (x ∷ s) zero a e = absurd (never (sym (ap not (eq-eqb _ _ e)) ∙ (both (is_written x) (every is_written s) a).0))
+past_table (x ∷ s) (suc i) a e = let h : length s ≤ i = past_table s i (both (is_written x) (every is_written s) a).1 e in omega arith
 
 pub in_table : (s : List ℕ) (i : ℕ) → (little (rule_text (get_or s i 0)) ≡ 3472328296227680304 → ⊥) → i < length s
 unfolding rule_text
@@ -141,9 +141,9 @@ take_split (suc k) (x ∷ xs) ys =
 
 -- those of the findings xs, from the n-th on, that stand before the end-th, and then those of ys
 module _ (ssn : Bytes) (end n n' : ℕ) (xs ys : List Finding) (out out' e : Bytes) (c : n' ≡ n + length (take (end - n) xs)) where
-  pub more-laid : out' ≡ laid out (120 * n) (errors_from ssn n (take (end - n) xs)) → laid out (120 * n) (errors_from ssn n (take (end - n) (xs ++ ys))) ≡ e
+  pub more_laid : out' ≡ laid out (120 * n) (errors_from ssn n (take (end - n) xs)) → laid out (120 * n) (errors_from ssn n (take (end - n) (xs ++ ys))) ≡ e
       → laid out' (120 * n') (errors_from ssn n' (take (end - n') ys)) ≡ e
-  more-laid o v =
+  more_laid o v =
       let zs = take (end - n) xs in
       let rest : end - n - length zs ≡ end - n' = omega arith in
       let to : 120 * n' ≡ 120 * n + length (errors_from ssn n zs) = omega (arith, length-errors_from ssn n zs) in
@@ -153,17 +153,17 @@ module _ (ssn : Bytes) (end n n' : ℕ) (xs ys : List Finding) (out out' e : Byt
       ∙ ap (λ (l : List Finding). laid out (120 * n) (errors_from ssn n l)) (sym (take_split (end - n) xs ys ∙ ap (λ (m : ℕ). zs ++ take m ys) rest))
       ∙ v
 
-  pub more-counted : (m : ℕ) → n + length (take (end - n) (xs ++ ys)) ≡ m → n' + length (take (end - n') ys) ≡ m
-  more-counted m v =
+  pub more_counted : (m : ℕ) → n + length (take (end - n) (xs ++ ys)) ≡ m → n' + length (take (end - n') ys) ≡ m
+  more_counted m v =
       let zs = take (end - n) xs in
       let rest : end - n - length zs ≡ end - n' = omega arith in
       let l : length (take (end - n) (xs ++ ys)) ≡ length zs + length (take (end - n') ys) =
       ap length (take_split (end - n) xs ys ∙ ap (λ (k : ℕ). zs ++ take k ys) rest) ∙ length-append zs (take (end - n') ys) in
       omega arith
 
-none-laid : (ssn : Bytes) (n : ℕ) (xs : List Finding) (out e : Bytes) → xs ≡ [] → laid out (120 * n) (errors_from ssn n xs) ≡ e → out ≡ e
+none_laid : (ssn : Bytes) (n : ℕ) (xs : List Finding) (out e : Bytes) → xs ≡ [] → laid out (120 * n) (errors_from ssn n xs) ≡ e → out ≡ e
 unfolding laid
-none-laid ssn n xs out e h v = sym (ap (λ (l : List Finding). laid out (120 * n) (errors_from ssn n l)) h) ∙ v
+none_laid ssn n xs out e h v = sym (ap (λ (l : List Finding). laid out (120 * n) (errors_from ssn n l)) h) ∙ v
 
 none_before : (end n : ℕ) (xs : List Finding) → end ≤ n → take (end - n) xs ≡ []
 none_before end n xs h = let z : end - n ≡ 0 = omega arith in ap (λ (k : ℕ). take k xs) z
@@ -188,18 +188,18 @@ module _ (ssn r : Bytes) (k : Kind) (end : ℕ) where
 
   module _ (out₀ out : Bytes) (first set n left : ℕ) (g : Going out₀ out first set n left) where
     stops : row_from n left ≡ [] → (n ≡ first + length (row_from first set)) × (out ≡ laid out₀ (120 * first) (errors_from ssn first (row_from first set)))
-    stops h = let z : length (row_from n left) ≡ 0 = ap length h in (omega (arith, g.counts), none-laid ssn n (row_from n left) out _ h g.lays)
+    stops h = let z : length (row_from n left) ≡ 0 = ap length h in (omega (arith, g.counts), none_laid ssn n (row_from n left) out _ h g.lays)
 
-    pub row-full : end ≤ n → (n ≡ first + length (row_from first set)) × (out ≡ laid out₀ (120 * first) (errors_from ssn first (row_from first set)))
-    row-full h = stops (none_before end n _ h)
+    pub row_full : end ≤ n → (n ≡ first + length (row_from first set)) × (out ≡ laid out₀ (120 * first) (errors_from ssn first (row_from first set)))
+    row_full h = stops (none_before end n _ h)
 
-    pub row-past : (text : ℕ) → text ≡ little (rule_text (get_or (rules_of k) (count_trailing_zeros 64 left) 0)) → text ≡ 3472328296227680304
+    pub row_past : (text : ℕ) → text ≡ little (rule_text (get_or (rules_of k) (count_trailing_zeros 64 left) 0)) → text ≡ 3472328296227680304
         → (n ≡ first + length (row_from first set)) × (out ≡ laid out₀ (120 * first) (errors_from ssn first (row_from first set)))
-    row-past text e z =
-        stops (take_none (end - n) _ (ap (map (mark k r)) (no-rule 64 left (rules_of k) g.fits (past-table (rules_of k) (count_trailing_zeros 64 left) (no-zeros k) (sym e ∙ z)))))
+    row_past text e z =
+        stops (take_none (end - n) _ (ap (map (mark k r)) (no_rule 64 left (rules_of k) g.fits (past_table (rules_of k) (count_trailing_zeros 64 left) (no_zeros k) (sym e ∙ z)))))
 
     pub row_done : left ≡ 0 → (n ≡ first + length (row_from first set)) × (out ≡ laid out₀ (120 * first) (errors_from ssn first (row_from first set)))
-    row_done z = stops (take_none (end - n) _ (ap (map (mark k r)) (ap (λ (s : ℕ). chosen s (rules_of k)) z ∙ empty-set (rules_of k))))
+    row_done z = stops (take_none (end - n) _ (ap (map (mark k r)) (ap (λ (s : ℕ). chosen s (rules_of k)) z ∙ empty_set (rules_of k))))
 
     pub row_next : (text : ℕ) (model out' : Bytes) → text ≡ little (rule_text (get_or (rules_of k) (count_trailing_zeros 64 left) 0)) → (text ≡ 3472328296227680304 → ⊥) → (left ≡ 0 → ⊥)
         → n < end → 120 * end ≤ length out₀ → model ≡ error_model ssn (field L4868 0 r) (type_at k r) (bytes "00001") (occurrence_at k r) → out' ≡ placed out (120 * n) (error_by model n text)
@@ -214,7 +214,7 @@ module _ (ssn r : Bytes) (k : Kind) (end : ℕ) where
         let x : Finding = mark k r rule in
         let ys = map (mark k r) (chosen (bit_and left (left - 1)) (rules_of k)) in
         let on : map (mark k r) (chosen left (rules_of k)) ≡ x ∷ ys =
-        ap (map (mark k r)) (next-rule 64 left (rules_of k) p g.fits i) in
+        ap (map (mark k r)) (next_rule 64 left (rules_of k) p g.fits i) in
         let s : end - n ≡ suc (end - (n + 1)) = omega arith in
         let one : take (end - n) (x ∷ []) ≡ x ∷ [] = ap (λ (m : ℕ). take m (x ∷ [])) s ∙ take_nil' (end - (n + 1)) x in
         let c : n + 1 ≡ n + length (take (end - n) (x ∷ [])) = sym (ap (λ (l : List Finding). n + length l) one) in
@@ -226,8 +226,8 @@ module _ (ssn r : Bytes) (k : Kind) (end : ℕ) where
           within = omega arith;
           fits = omega (arith, g.fits, and_le_r left (left - 1));
           same = ap length o' ∙ length-laid out (120 * n) _ ∙ g.same;
-          counts = more-counted ssn end n (n + 1) (x ∷ []) ys out out' out c _ (ap (λ (l : List Finding). n + length (take (end - n) l)) (sym on) ∙ g.counts);
-          lays = more-laid ssn end n (n + 1) (x ∷ []) ys out out' _ c o' (ap (λ (l : List Finding). laid out (120 * n) (errors_from ssn n (take (end - n) l))) (sym on) ∙ g.lays);
+          counts = more_counted ssn end n (n + 1) (x ∷ []) ys out out' out c _ (ap (λ (l : List Finding). n + length (take (end - n) l)) (sym on) ∙ g.counts);
+          lays = more_laid ssn end n (n + 1) (x ∷ []) ys out out' _ c o' (ap (λ (l : List Finding). laid out (120 * n) (errors_from ssn n (take (end - n) l))) (sym on) ∙ g.lays);
         }
       where
         take_nil' : (m : ℕ) (y : Finding) → take (suc m) (y ∷ []) ≡ y ∷ []
@@ -239,10 +239,10 @@ module _ (ssn r : Bytes) (k : Kind) (end : ℕ) where
 
 -- THE ERROR RECORDS OF THE ROWS
 
-pub firsts-take : (n : ℕ) (row : List (List ℕ)) → n ≤ length row → firsts n row ≡ take n row
-firsts-take zero row h = refl
-firsts-take (suc n) [] h = absurd (omega arith)
-firsts-take (suc n) (x ∷ row) h = ap (λ (r : List (List ℕ)). x ∷ r) (firsts-take n row (omega arith))
+pub firsts_take : (n : ℕ) (row : List (List ℕ)) → n ≤ length row → firsts n row ≡ take n row
+firsts_take zero row h = refl
+firsts_take (suc n) [] h = absurd (omega arith)
+firsts_take (suc n) (x ∷ row) h = ap (λ (r : List (List ℕ)). x ∷ r) (firsts_take n row (omega arith))
 
 get_d_first : (row : List (List ℕ)) (i : ℕ) → get_or (drop i row) 0 [] ≡ get_or row i []
 get_d_first row zero = refl
@@ -290,26 +290,26 @@ module _ (ssn t : Bytes) (list : List (List ℕ)) (end rows : ℕ) where
           within = omega (arith, c, length-take (end - n) xs, g.within);
           along = omega arith;
           same = ap length o ∙ length-laid out (120 * n) _ ∙ g.same;
-          lays = more-laid ssn end n n' xs ys out out' _ c o (ap (λ (l : List (List ℕ)). laid out (120 * n) (errors_from ssn n (take (end - n) (found_from t l)))) (sym here) ∙ g.lays);
+          lays = more_laid ssn end n n' xs ys out out' _ c o (ap (λ (l : List (List ℕ)). laid out (120 * n) (errors_from ssn n (take (end - n) (found_from t l)))) (sym here) ∙ g.lays);
         }
 
-    pub rows-done : rows ≤ i → out ≡ laid out₀ 120 (errors_from ssn 1 (take (end - 1) (found_from t (firsts rows list))))
-    rows-done h =
+    pub rows_done : rows ≤ i → out ≡ laid out₀ 120 (errors_from ssn 1 (take (end - 1) (found_from t (firsts rows list))))
+    rows_done h =
         let z : rows - i ≡ 0 = omega arith in
-        none-laid ssn n (rows_from n i) out _ (take_none (end - n) _ (ap (λ (m : ℕ). found_from t (firsts m (drop i list))) z)) g.lays
+        none_laid ssn n (rows_from n i) out _ (take_none (end - n) _ (ap (λ (m : ℕ). found_from t (firsts m (drop i list))) z)) g.lays
 
 -- a finding's kind, back from the number that the row has of it
-pub kind-back : (k : Kind) → kind_at (kind_number k) ≡ k
+pub kind_back : (k : Kind) → kind_at (kind_number k) ≡ k
 unfolding kind_at
-kind-back TranA = refl
-kind-back TranB = refl
-kind-back Form = refl
-kind-back Unknown = refl
-kind-back Payment = refl
-kind-back Auth = refl
-kind-back Summary = refl
-kind-back Recap = refl
-kind-back Stray = refl
+kind_back TranA = refl
+kind_back TranB = refl
+kind_back Form = refl
+kind_back Unknown = refl
+kind_back Payment = refl
+kind_back Auth = refl
+kind_back Summary = refl
+kind_back Recap = refl
+kind_back Stray = refl
 
 -- THE SET: a Key, and the Error records right after it
 module _ (main t date : Bytes) (j : Judgment) (list : List (List ℕ)) (out : Bytes) (n m : ℕ) (en : n ≡ min 96 j.found.kept) where
@@ -319,13 +319,13 @@ module _ (main t date : Bytes) (j : Judgment) (list : List (List ℕ)) (out : By
       let f : length out < 120 + 120 * min 96 j.found.kept = omega arith in
       ap (λ (b : Bool). cond b (laid out 0 (set_as main t date j list)) out) (sym (lt-leb _ _ f))
 
-  pub set-laid : (ssn o o' : Bytes) → m ≡ min 96 j.found.rows → 120 + 120 * n ≤ length out
+  pub set_laid : (ssn o o' : Bytes) → m ≡ min 96 j.found.rows → 120 + 120 * n ≤ length out
       → ssn ≡ cond (eqb j.identity.ssn 0) (bytes "000000000") (field L4868 90 main)
       → o ≡ placed out 0 (key_of main j.known j.identity date j.letter j.facts n j.found.ath j.births)
       → o' ≡ laid o 120 (errors_from ssn 1 (take (n + 1 - 1) (found_from t (firsts m list))))
       → o' ≡ cond (leb (120 + 120 * min 96 j.found.kept) (length out)) (laid out 0 (set_as main t date j list)) out
   unfolding set_as placed
-  set-laid ssn o o' em h es ek eo =
+  set_laid ssn o o' em h es ek eo =
       let a = min 96 j.found.kept in
       let f : 120 + 120 * a ≤ length out = omega arith in
       let f' : 0 + 120 ≤ length out = omega arith in
@@ -342,11 +342,11 @@ module _ (main t date : Bytes) (j : Judgment) (list : List (List ℕ)) (out : By
       ∙ ap (λ (b : Bool). cond b (laid out 0 (set_as main t date j list)) out) (sym (le-leb _ _ f))
 
 -- the set is the paper's, where the numbers are the form's and the rows have the findings that are written
-pub set-said : (main t date : Bytes) (j : Judgment) (list : List (List ℕ)) (found : List Finding)
+pub set_said : (main t date : Bytes) (j : Judgment) (list : List (List ℕ)) (found : List Finding)
     → j.identity ≡ cond j.known (identity_of main) no_identity
     → take (min 96 j.found.kept) (found_from t (firsts (min 96 j.found.rows) list)) ≡ found → length found ≡ min 96 j.found.kept
     → set_as main t date j list ≡ set_by main j.known date j.letter j.facts found j.found.ath j.births
 unfolding set_as
-set-said main t date j list found own e l =
+set_said main t date j list found own e l =
     (λ i. key_of main j.known j.identity date j.letter j.facts (sym l i) j.found.ath j.births ++ errors_from (shown_as j.identity.ssn 9 (field L4868 90 main)) 1 (e i))
     ∙ set_parts main j.known j.identity own date j.letter j.facts found j.found.ath j.births

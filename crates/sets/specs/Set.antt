@@ -37,7 +37,7 @@ firsts zero row = []
 firsts (suc n) row = get_or row 0 [] ∷ firsts n (drop 1 row)
 
 -- the Key, and the Error records of the findings that are kept
--- tied to the paper by `set-said` of sets/Laws
+-- tied to the paper by `set_said` of sets/Laws
 unfoldable pub set_as : Bytes → Bytes → Bytes → Judgment → List (List ℕ) → Bytes
 set_as main t date j list =
     key_of main j.known j.identity date j.letter j.facts (min 96 j.found.kept) j.found.ath j.births

@@ -18,20 +18,20 @@ use Rattle.paper.specs.Layouts.{entry, field, through, summary}
 use Rattle.paper.specs.Conditions.{not_time, summary_holds, summary_rules, pick}
 use Rattle.paper.proofs.Laws.{both}
 use Rattle.words.specs.Sets.{bit_on, bits_on}
-use Rattle.words.proofs.Told.{not-both}
+use Rattle.words.proofs.Told.{not_both}
 
 -- what every byte of a part passes, every byte of a part of it does
-part-every : (p : ℕ → Bool) (a w b v : ℕ) (s : Bytes) → a ≤ b → b + v ≤ a + w → every p (part a w s) ≡ true → every p (part b v s) ≡ true
-part-every p a w b v [] g h e = rw (drop-nil b, take-nil v)
-part-every p (suc a) w zero v (x ∷ s) g h e = absurd (omega arith)
-part-every p (suc a) w (suc b) v (x ∷ s) g h e = part-every p a w b v s (omega arith) (omega arith) e
-part-every p zero zero (suc b) v (x ∷ s) g h e = absurd (omega arith)
-part-every p zero (suc w) (suc b) v (x ∷ s) g h e = part-every p zero w b v s (omega arith) (omega arith) (both (p x) (every p (take w s)) e).1
-part-every p zero w zero zero (x ∷ s) g h e = refl
-part-every p zero zero zero (suc v) (x ∷ s) g h e = absurd (omega arith)
-part-every p zero (suc w) zero (suc v) (x ∷ s) g h e =
+part_every : (p : ℕ → Bool) (a w b v : ℕ) (s : Bytes) → a ≤ b → b + v ≤ a + w → every p (part a w s) ≡ true → every p (part b v s) ≡ true
+part_every p a w b v [] g h e = rw (drop-nil b, take-nil v)
+part_every p (suc a) w zero v (x ∷ s) g h e = absurd (omega arith)
+part_every p (suc a) w (suc b) v (x ∷ s) g h e = part_every p a w b v s (omega arith) (omega arith) e
+part_every p zero zero (suc b) v (x ∷ s) g h e = absurd (omega arith)
+part_every p zero (suc w) (suc b) v (x ∷ s) g h e = part_every p zero w b v s (omega arith) (omega arith) (both (p x) (every p (take w s)) e).1
+part_every p zero w zero zero (x ∷ s) g h e = refl
+part_every p zero zero zero (suc v) (x ∷ s) g h e = absurd (omega arith)
+part_every p zero (suc w) zero (suc v) (x ∷ s) g h e =
     let b = both (p x) (every p (take w s)) e in
-    rw b.0 (part-every p zero w zero v s (omega arith) (omega arith) b.1)
+    rw b.0 (part_every p zero w zero v s (omega arith) (omega arith) b.1)
 
 -- where 0100 to 0220 stand
 stretch : (own : Bytes) → through LSummary 100 220 own ≡ part 114 160 own
@@ -47,15 +47,15 @@ inside rule =
 abbrev breaks : Bytes → ℕ → Bool
 breaks own rule = summary_holds (rule / 10000) (rule % 10000) [] own
 
-inside-kept : (own : Bytes) → blank (part 114 160 own) ≡ true → (rule : ℕ) → inside rule ≡ true → breaks own rule ≡ false
+inside_kept : (own : Bytes) → blank (part 114 160 own) ≡ true → (rule : ℕ) → inside rule ≡ true → breaks own rule ≡ false
 unfolding summary_holds pick field
-inside-kept own h rule e =
+inside_kept own h rule e =
     let f = entry LSummary (rule / 10000) in
     let a = both (eqb (rule % 10000) 14) (leb 114 f.start && leb (f.start + f.width) 274) e in
     let b = both (leb 114 f.start) (leb (f.start + f.width) 274) a.1 in
     let g : 114 ≤ f.start = leb-true 114 f.start b.0 in
     let k : f.start + f.width ≤ 274 = leb-true (f.start + f.width) 274 b.1 in
-    rw (eqb-true (rule % 10000) 14 a.0, part-every is_space 114 160 f.start f.width own g k h)
+    rw (eqb-true (rule % 10000) 14 a.0, part_every is_space 114 160 f.start f.width own g k h)
 
 -- a rule that is not broken before a set that starts with n of them
 kept_on : (a j n : ℕ) → j + n ≡ 63 → bit_on false (a * 2 ^ n) ≡ a % 2 ^ j * 2 ^ suc n
@@ -81,7 +81,7 @@ pub reserves_kept : (own t : Bytes) (set later : ℕ) → t ≡ through LSummary
     → set % 8796093022208 * 2097152 ≡ bits_on (breaks own) (take 21 (drop 14 summary_rules)) later
 unfolding summary_rules entry summary
 reserves_kept own t set later u h l e =
-    sym (bits_kept (breaks own) inside (inside-kept own (rw (← stretch own, ← u) h)) (take 21 (drop 14 summary_rules)) 43 set refl l refl)
+    sym (bits_kept (breaks own) inside (inside_kept own (rw (← stretch own, ← u) h)) (take 21 (drop 14 summary_rules)) 43 set refl l refl)
     ∙ ap (bits_on (breaks own) (take 21 (drop 14 summary_rules))) e
 
 -- a time that is present; n says whether it is not digits
@@ -91,5 +91,5 @@ time_told f b n e h g =
     let p : present f ≡ true = ap not (sym e ∙ h) in
     let a = leb (number (take 2 f)) 23 in
     let c = leb (number (part 2 2 f)) 59 in
-    ap (λ (x : Bool). x || not (a && c)) (g ∙ ap (λ (x : Bool). x && not (digits f)) p) ∙ not-both (digits f) (a && c)
+    ap (λ (x : Bool). x || not (a && c)) (g ∙ ap (λ (x : Bool). x && not (digits f)) p) ∙ not_both (digits f) (a && c)
     ∙ ap not (sym (and_assoc (digits f) a c)) ∙ ap (λ (x : Bool). x && not (digits f && a && c)) (sym p)

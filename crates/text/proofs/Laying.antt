@@ -19,10 +19,10 @@ laid_append [] t r at = rw add-zero
 laid_append (x ∷ s) t r at = rw (add-suc, ← suc-add) (laid_append s t (set r at x) (suc at))
 
 -- nothing is laid past the last byte
-sets-past : (t r : List ℕ) (k : ℕ) → length r ≤ k → sets r k t ≡ r
-sets-past [] r k h = refl
-sets-past (x ∷ t) r k h =
-    ap (λ (q : List ℕ). sets q (suc k) t) (set_out r k x h) ∙ sets-past t r (suc k) (omega arith)
+sets_past : (t r : List ℕ) (k : ℕ) → length r ≤ k → sets r k t ≡ r
+sets_past [] r k h = refl
+sets_past (x ∷ t) r k h =
+    ap (λ (q : List ℕ). sets q (suc k) t) (set_out r k x h) ∙ sets_past t r (suc k) (omega arith)
 
 -- The answers of the loop that lays the first n bytes of a text t, as many as there is room for in out from a place on
 pub lay_start : (out t : List ℕ) (at : ℕ) → laid out (at + 0) (drop 0 t) ≡ laid out at t
@@ -42,7 +42,7 @@ module _ (out t e : List ℕ) (at i n : ℕ) (room : n ≡ min (length t) (lengt
     where
       by : (b : Bool) → leb (length t) i ≡ b → out ≡ e
       by true q = sym (ap (sets out (at + i)) (ended t i (leb-true _ _ q))) ∙ v
-      by false q = let f : i < length t = leb-false (length t) i q in sym (sets-past (drop i t) out (at + i) (omega arith)) ∙ v
+      by false q = let f : i < length t = leb-false (length t) i q in sym (sets_past (drop i t) out (at + i) (omega arith)) ∙ v
 
 -- a text laid at the front of the k bytes from a place on, which are put back; for a caller that lends them
 pub lent_laid : (out x new : List ℕ) (to k : ℕ) → k ≡ length out - to → to + length x ≤ length out → new ≡ laid (take k (drop to out)) 0 x

@@ -13,80 +13,80 @@ use lib.ListN.{length, get_or, take, drop, set, length-drop, length-set}
 use lib.Seq.{sets, length-sets, take_all, take-take, take-nil, drop-length}
 use borrow.Author.Tests.{ltb-true, ltb-false, eqb-true, eqb-false, lt-ltb, le-ltb, le-leb, lt-leb}
 use Rattle.paper.specs.Bytes.{Bytes, every, same, before, part}
-use Rattle.paper.proofs.Laws.{both, next, same-eq, same_self}
+use Rattle.paper.proofs.Laws.{both, next, same_eq, same_self}
 use Rattle.text.specs.Words.{is_byte, little, bytes_of, high, word_laid}
 
-pub every-split : (p : ℕ → Bool) (k : ℕ) (s : Bytes) → every p s ≡ (every p (take k s) && every p (drop k s))
-every-split p zero s = refl
-every-split p (suc k) [] = refl
-every-split p (suc k) (x ∷ s) = ap (λ (b : Bool). p x && b) (every-split p k s) ∙ sym (and_assoc (p x) (every p (take k s)) (every p (drop k s)))
+pub every_split : (p : ℕ → Bool) (k : ℕ) (s : Bytes) → every p s ≡ (every p (take k s) && every p (drop k s))
+every_split p zero s = refl
+every_split p (suc k) [] = refl
+every_split p (suc k) (x ∷ s) = ap (λ (b : Bool). p x && b) (every_split p k s) ∙ sym (and_assoc (p x) (every p (take k s)) (every p (drop k s)))
 
 -- bytes, the first one and the others
 first_byte : (x : ℕ) (s : Bytes) → every is_byte (x ∷ s) ≡ true → x < 256
 first_byte x s h = ltb-true x 256 (both (is_byte x) (every is_byte s) h).0
 
-other-bytes : (x : ℕ) (s : Bytes) → every is_byte (x ∷ s) ≡ true → every is_byte s ≡ true
-other-bytes x s h = (both (is_byte x) (every is_byte s) h).1
+other_bytes : (x : ℕ) (s : Bytes) → every is_byte (x ∷ s) ≡ true → every is_byte s ≡ true
+other_bytes x s h = (both (is_byte x) (every is_byte s) h).1
 
-pub little-split : (k : ℕ) (s : Bytes) → little s ≡ little (take k s) + little (drop k s) * 256 ^ k
-little-split zero s = omega (arith, mul-one (little s))
-little-split (suc k) [] = omega (arith, zero-mul (256 ^ suc k))
-little-split (suc k) (x ∷ s) =
+pub little_split : (k : ℕ) (s : Bytes) → little s ≡ little (take k s) + little (drop k s) * 256 ^ k
+little_split zero s = omega (arith, mul-one (little s))
+little_split (suc k) [] = omega (arith, zero-mul (256 ^ suc k))
+little_split (suc k) (x ∷ s) =
     let more : little (drop k s) * 256 ^ suc k ≡ little (drop k s) * 256 ^ k * 256 =
     ap (λ (m : ℕ). little (drop k s) * m) (pow-suc 256 k) ∙ sym (mul_assoc (little (drop k s)) (256 ^ k) 256) in
-    omega (arith, little-split k s, more)
+    omega (arith, little_split k s, more)
 
 pub little_lt : (k : ℕ) (s : Bytes) → every is_byte s ≡ true → length s ≤ k → little s < 256 ^ k
 little_lt k [] h l = one-le-pow k 256 (lit< tt)
 little_lt zero (x ∷ s) h l = absurd (omega (arith, l))
 little_lt (suc k) (x ∷ s) h l =
-    omega (arith, first_byte x s h, little_lt k s (other-bytes x s h) (omega (arith, l)), pow-suc 256 k)
+    omega (arith, first_byte x s h, little_lt k s (other_bytes x s h) (omega (arith, l)), pow-suc 256 k)
 
 -- the number gives back its bytes
-pub bytes-little : (s : Bytes) → every is_byte s ≡ true → bytes_of (length s) (little s) ≡ s
-bytes-little [] h = refl
-bytes-little (x ∷ s) h =
+pub bytes_little : (s : Bytes) → every is_byte s ≡ true → bytes_of (length s) (little s) ≡ s
+bytes_little [] h = refl
+bytes_little (x ∷ s) h =
     ap₂ (λ (a : ℕ) (t : Bytes). a ∷ t) (digits_mod (little s) (first_byte x s h))
-    (ap (bytes_of (length s)) (digits_div (little s) (first_byte x s h)) ∙ bytes-little s (other-bytes x s h))
+    (ap (bytes_of (length s)) (digits_div (little s) (first_byte x s h)) ∙ bytes_little s (other_bytes x s h))
 
 -- bytes of one width are the same exactly if their numbers are
-pub same-little : (a b : Bytes) → every is_byte a ≡ true → every is_byte b ≡ true → length a ≡ length b → same a b ≡ eqb (little a) (little b)
-same-little a b h g l = go (eqb (little a) (little b)) refl
+pub same_little : (a b : Bytes) → every is_byte a ≡ true → every is_byte b ≡ true → length a ≡ length b → same a b ≡ eqb (little a) (little b)
+same_little a b h g l = go (eqb (little a) (little b)) refl
   where
     equal : little a ≡ little b → a ≡ b
-    equal e = sym (bytes-little a h) ∙ (λ i. bytes_of (l i) (e i)) ∙ bytes-little b g
+    equal e = sym (bytes_little a h) ∙ (λ i. bytes_of (l i) (e i)) ∙ bytes_little b g
 
     go : (q : Bool) → eqb (little a) (little b) ≡ q → same a b ≡ q
     go true e = ap (λ (t : Bytes). same t b) (equal (eqb-true (little a) (little b) e)) ∙ same_self b
     go false e = not_same (same a b) refl
       where
         not_same : (q : Bool) → same a b ≡ q → q ≡ false
-        not_same true f = absurd (eqb-false (little a) (little b) e (ap little (same-eq a b f)))
+        not_same true f = absurd (eqb-false (little a) (little b) e (ap little (same_eq a b f)))
         not_same false f = refl
 
 -- the first byte highest
 
-none-high : (k : ℕ) → high k [] ≡ 0
-none-high zero = refl
-none-high (suc k) = refl
+none_high : (k : ℕ) → high k [] ≡ 0
+none_high zero = refl
+none_high (suc k) = refl
 
-none-back : (k : ℕ) → high k (bytes_of k 0) ≡ 0
-none-back zero = refl
-none-back (suc k) = ap₂ ◌+◌ (zero-mul (256 ^ k)) (none-back k)
+none_back : (k : ℕ) → high k (bytes_of k 0) ≡ 0
+none_back zero = refl
+none_back (suc k) = ap₂ ◌+◌ (zero-mul (256 ^ k)) (none_back k)
 
-pub high-little : (k : ℕ) (s : Bytes) → every is_byte s ≡ true → high k (bytes_of k (little s)) ≡ high k s
-high-little zero s h = refl
-high-little (suc k) [] h = none-back (suc k)
-high-little (suc k) (x ∷ s) h =
+pub high_little : (k : ℕ) (s : Bytes) → every is_byte s ≡ true → high k (bytes_of k (little s)) ≡ high k s
+high_little zero s h = refl
+high_little (suc k) [] h = none_back (suc k)
+high_little (suc k) (x ∷ s) h =
     (λ i. digits_mod (little s) (first_byte x s h) i * 256 ^ k + high k (bytes_of k (digits_div (little s) (first_byte x s h) i)))
-    ∙ ap (λ (n : ℕ). x * 256 ^ k + n) (high-little k s (other-bytes x s h))
+    ∙ ap (λ (n : ℕ). x * 256 ^ k + n) (high_little k s (other_bytes x s h))
 
 pub high_lt : (k : ℕ) (s : Bytes) → every is_byte s ≡ true → high k s < 256 ^ k
 high_lt zero s h = lit< tt
 high_lt (suc k) [] h = one-le-pow (suc k) 256 (lit< tt)
 high_lt (suc k) (x ∷ s) h =
     let top : suc x * 256 ^ k ≤ 256 * 256 ^ k = mul-le-mul_right (256 ^ k) (first_byte x s h) in
-    omega (arith, top, suc-mul x (256 ^ k), high_lt k s (other-bytes x s h), pow-suc 256 k)
+    omega (arith, top, suc-mul x (256 ^ k), high_lt k s (other_bytes x s h), pow-suc 256 k)
 
 -- numbers in two parts compare by the higher part, then by the lower
 module _ (m x y a b : ℕ) (ha : a < m) (hb : b < m) where
@@ -112,14 +112,14 @@ pair_ltb m x y a b ha hb = go (ltb x y) refl (eqb x y) refl
         le-ltb (x * m + a) (y * m + b) (omega (arith, over))
 
 -- bytes of one width of at most k come one before the other exactly if their numbers do
-pub before-high : (k : ℕ) (a b : Bytes) → every is_byte a ≡ true → every is_byte b ≡ true → length a ≡ length b → length a ≤ k → before a b ≡ ltb (high k a) (high k b)
-before-high k [] [] h g l m = sym (le-ltb (high k []) (high k []) (omega arith))
-before-high k [] (y ∷ t) h g l m = absurd (omega (arith, l))
-before-high k (x ∷ s) [] h g l m = absurd (omega (arith, l))
-before-high zero (x ∷ s) (y ∷ t) h g l m = absurd (omega (arith, m))
-before-high (suc k) (x ∷ s) (y ∷ t) h g l m =
-    ap (λ (c : Bool). ltb x y || eqb x y && c) (before-high k s t (other-bytes x s h) (other-bytes y t g) (omega (arith, l)) (omega (arith, m)))
-    ∙ sym (pair_ltb (256 ^ k) x y (high k s) (high k t) (high_lt k s (other-bytes x s h)) (high_lt k t (other-bytes y t g)))
+pub before_high : (k : ℕ) (a b : Bytes) → every is_byte a ≡ true → every is_byte b ≡ true → length a ≡ length b → length a ≤ k → before a b ≡ ltb (high k a) (high k b)
+before_high k [] [] h g l m = sym (le-ltb (high k []) (high k []) (omega arith))
+before_high k [] (y ∷ t) h g l m = absurd (omega (arith, l))
+before_high k (x ∷ s) [] h g l m = absurd (omega (arith, l))
+before_high zero (x ∷ s) (y ∷ t) h g l m = absurd (omega (arith, m))
+before_high (suc k) (x ∷ s) (y ∷ t) h g l m =
+    ap (λ (c : Bool). ltb x y || eqb x y && c) (before_high k s t (other_bytes x s h) (other_bytes y t g) (omega (arith, l)) (omega (arith, m)))
+    ∙ sym (pair_ltb (256 ^ k) x y (high k s) (high k t) (high_lt k s (other_bytes x s h)) (high_lt k t (other_bytes y t g)))
 
 power_split : (n k j : ℕ) → n ≡ k + j → 256 ^ n ≡ 256 ^ k * 256 ^ j
 power_split n zero j e = let m : n ≡ j = omega arith in ap (λ (i : ℕ). 256 ^ i) m ∙ sym (one-mul (256 ^ j))
@@ -130,10 +130,10 @@ power_split (suc n) (suc k) j e =
     pow-suc 256 n ∙ ap (λ (m : ℕ). m * 256) (power_split n k j (omega arith)) ∙ on ∙ ap (λ (m : ℕ). m * 256 ^ j) (sym (pow-suc 256 k))
 
 -- the bytes after the first k do not count
-high-take : (k : ℕ) (s : Bytes) → high k (take k s) ≡ high k s
-high-take zero s = refl
-high-take (suc k) [] = refl
-high-take (suc k) (x ∷ s) = ap (λ (n : ℕ). x * 256 ^ k + n) (high-take k s)
+high_take : (k : ℕ) (s : Bytes) → high k (take k s) ≡ high k s
+high_take zero s = refl
+high_take (suc k) [] = refl
+high_take (suc k) (x ∷ s) = ap (λ (n : ℕ). x * 256 ^ k + n) (high_take k s)
 
 pub drop-take : (n k j : ℕ) (s : Bytes) → n ≡ k + j → drop k (take n s) ≡ take j (drop k s)
 drop-take n zero j s e = let m : n ≡ j = omega arith in ap (λ (i : ℕ). take i s) m
@@ -142,44 +142,44 @@ drop-take (suc n) (suc k) j [] e = sym (take-nil j)
 drop-take (suc n) (suc k) j (x ∷ s) e = drop-take n k j s (omega arith)
 
 -- the number of two parts
-pub high-split : (n k j : ℕ) (s : Bytes) → n ≡ k + j → high n s ≡ high k s * 256 ^ j + high j (drop k s)
-high-split n zero j s e =
+pub high_split : (n k j : ℕ) (s : Bytes) → n ≡ k + j → high n s ≡ high k s * 256 ^ j + high j (drop k s)
+high_split n zero j s e =
     let m : n ≡ j = omega arith in
     ap (λ (i : ℕ). high i s) m ∙ omega (arith, zero-mul (256 ^ j))
-high-split zero (suc k) j s e = absurd (omega arith)
-high-split (suc n) (suc k) j [] e = sym (ap₂ ◌+◌ (zero-mul (256 ^ j)) (none-high j))
-high-split (suc n) (suc k) j (x ∷ s) e =
+high_split zero (suc k) j s e = absurd (omega arith)
+high_split (suc n) (suc k) j [] e = sym (ap₂ ◌+◌ (zero-mul (256 ^ j)) (none_high j))
+high_split (suc n) (suc k) j (x ∷ s) e =
     let less : n ≡ k + j = omega arith in
     let top : x * 256 ^ n ≡ x * 256 ^ k * 256 ^ j = ap (λ (m : ℕ). x * m) (power_split n k j less) ∙ sym (mul_assoc x (256 ^ k) (256 ^ j)) in
-    omega (arith, top, high-split n k j s less, add-mul (x * 256 ^ k) (high k s) (256 ^ j))
+    omega (arith, top, high_split n k j s less, add-mul (x * 256 ^ k) (high k s) (256 ^ j))
 
 -- FOR THE FUNCTIONS
 
 small : (a b c d : ℕ) → a < 256 → b < 256 → c < 256 → d < 256 → every is_byte (a ∷ b ∷ c ∷ d ∷ []) ≡ true
 small a b c d ha hb hc hd = simp (lt-ltb a 256 ha, lt-ltb b 256 hb, lt-ltb c 256 hc, lt-ltb d 256 hd)
 
-pub four-told : (s : Bytes) (r : ℕ) → length s ≡ 4 → get_or s 0 0 < 256 → get_or s 1 0 < 256 → get_or s 2 0 < 256 → get_or s 3 0 < 256
+pub four_told : (s : Bytes) (r : ℕ) → length s ≡ 4 → get_or s 0 0 < 256 → get_or s 1 0 < 256 → get_or s 2 0 < 256 → get_or s 3 0 < 256
     → r ≡ get_or s 0 0 + get_or s 1 0 * 256 + get_or s 2 0 * 65536 + get_or s 3 0 * 16777216 → (r ≡ little s) × (every is_byte s ≡ true)
-four-told (a ∷ b ∷ c ∷ d ∷ []) r l ha hb hc hd e = (omega (arith, e), small a b c d ha hb hc hd)
-four-told [] r l ha hb hc hd e = absurd (omega (arith, l))
-four-told (a ∷ []) r l ha hb hc hd e = absurd (omega (arith, l))
-four-told (a ∷ b ∷ []) r l ha hb hc hd e = absurd (omega (arith, l))
-four-told (a ∷ b ∷ c ∷ []) r l ha hb hc hd e = absurd (omega (arith, l))
-four-told (a ∷ b ∷ c ∷ d ∷ f ∷ s) r l ha hb hc hd e = absurd (omega (arith, l))
+four_told (a ∷ b ∷ c ∷ d ∷ []) r l ha hb hc hd e = (omega (arith, e), small a b c d ha hb hc hd)
+four_told [] r l ha hb hc hd e = absurd (omega (arith, l))
+four_told (a ∷ []) r l ha hb hc hd e = absurd (omega (arith, l))
+four_told (a ∷ b ∷ []) r l ha hb hc hd e = absurd (omega (arith, l))
+four_told (a ∷ b ∷ c ∷ []) r l ha hb hc hd e = absurd (omega (arith, l))
+four_told (a ∷ b ∷ c ∷ d ∷ f ∷ s) r l ha hb hc hd e = absurd (omega (arith, l))
 
 -- two numbers of four bytes each as one
 module _ (q p : Bytes) (t : p ≡ q) (x y : ℕ) (l : length p ≡ 8) where
-  rest-is : take 4 (drop 4 p) ≡ drop 4 p
-  rest-is = take_all 4 (drop 4 p) (omega (arith, l, length-drop 4 p))
+  rest_is : take 4 (drop 4 p) ≡ drop 4 p
+  rest_is = take_all 4 (drop 4 p) (omega (arith, l, length-drop 4 p))
 
-  pub word-told : x ≡ little (take 4 p) → y ≡ little (take 4 (drop 4 p)) → x + y * 4294967296 ≡ little q
-  word-told e f = (λ i. e i + (f ∙ ap little rest-is) i * 4294967296) ∙ sym (little-split 4 p) ∙ ap little t
+  pub word_told : x ≡ little (take 4 p) → y ≡ little (take 4 (drop 4 p)) → x + y * 4294967296 ≡ little q
+  word_told e f = (λ i. e i + (f ∙ ap little rest_is) i * 4294967296) ∙ sym (little_split 4 p) ∙ ap little t
 
   pub word_bytes : every is_byte (take 4 p) ≡ true → every is_byte (take 4 (drop 4 p)) ≡ true → every is_byte q ≡ true
-  word_bytes h g = ap (every is_byte) (sym t) ∙ every-split is_byte 4 p ∙ ap₂ ◌&&◌ h (ap (every is_byte) (sym rest-is) ∙ g)
+  word_bytes h g = ap (every is_byte) (sym t) ∙ every_split is_byte 4 p ∙ ap₂ ◌&&◌ h (ap (every is_byte) (sym rest_is) ∙ g)
 
-pub low-start : (s : Bytes) → (0 ≡ little (drop (length s) s)) × (every is_byte (drop (length s) s) ≡ true)
-low-start s = (ap little (sym (drop-length s)), ap (every is_byte) (drop-length s))
+pub low_start : (s : Bytes) → (0 ≡ little (drop (length s) s)) × (every is_byte (drop (length s) s) ≡ true)
+low_start s = (ap little (sym (drop-length s)), ap (every is_byte) (drop-length s))
 
 pub low_fits : (s : Bytes) (i n : ℕ) → 0 < i → length s ≤ 8 → n ≡ little (drop i s) → every is_byte (drop i s) ≡ true → n < 72057594037927936
 low_fits s i n h l e g = rw e (little_lt 7 (drop i s) g (omega (arith, length-drop i s)))
@@ -195,25 +195,25 @@ low_again s i n x h l e g f m =
       ap (every is_byte) on ∙ ap₂ ◌&&◌ (lt-ltb x 256 m) g,
     )
 
-pub low-done : (s : Bytes) (i n : ℕ) → i ≤ 0 → n ≡ little (drop i s) → every is_byte (drop i s) ≡ true → (n ≡ little s) × (every is_byte s ≡ true)
-low-done s zero n h e g = (e, g)
-low-done s (suc i) n h e g = absurd (omega arith)
+pub low_done : (s : Bytes) (i n : ℕ) → i ≤ 0 → n ≡ little (drop i s) → every is_byte (drop i s) ≡ true → (n ≡ little s) × (every is_byte s ≡ true)
+low_done s zero n h e g = (e, g)
+low_done s (suc i) n h e g = absurd (omega arith)
 
-pub turned-fits : (a b c d e f g h : ℕ) → a < 256 → b < 256 → c < 256 → d < 256 → e < 256 → f < 256 → g < 256 → h < 256
+pub turned_fits : (a b c d e f g h : ℕ) → a < 256 → b < 256 → c < 256 → d < 256 → e < 256 → f < 256 → g < 256 → h < 256
     → a * 72057594037927936 + b * 281474976710656 + c * 1099511627776 + d * 4294967296 + e * 16777216 + f * 65536 + g * 256 + h < 18446744073709551616
-turned-fits a b c d e f g h ha hb hc hd he hf hg hh = omega arith
+turned_fits a b c d e f g h ha hb hc hd he hf hg hh = omega arith
 
-pub turned-told : (a b c d e f g h : ℕ)
+pub turned_told : (a b c d e f g h : ℕ)
     → a * 72057594037927936 + b * 281474976710656 + c * 1099511627776 + d * 4294967296 + e * 16777216 + f * 65536 + g * 256 + h
     ≡ high 8 (a ∷ b ∷ c ∷ d ∷ e ∷ f ∷ g ∷ h ∷ [])
-turned-told a b c d e f g h = omega arith
+turned_told a b c d e f g h = omega arith
 
 -- a key's two halves
 pub halves : (s : Bytes) (x y : ℕ) → x ≡ high 8 (part 0 8 s) → y ≡ high 8 (part 8 8 s) → x * 18446744073709551616 + y ≡ high 16 s
-halves s x y e f = (λ i. e i * 18446744073709551616 + f i) ∙ (λ i. high-take 8 s i * 18446744073709551616 + high-take 8 (drop 8 s) i) ∙ sym (high-split 16 8 8 s refl)
+halves s x y e f = (λ i. e i * 18446744073709551616 + f i) ∙ (λ i. high_take 8 s i * 18446744073709551616 + high_take 8 (drop 8 s) i) ∙ sym (high_split 16 8 8 s refl)
 
-pub halves-bytes : (s : Bytes) → every is_byte (part 0 8 s) ≡ true → every is_byte (part 8 8 s) ≡ true → every is_byte (part 0 16 s) ≡ true
-halves-bytes s h g = every-split is_byte 8 (part 0 16 s) ∙ ap₂ ◌&&◌ (ap (every is_byte) (take-take 8 16 s (omega arith)) ∙ h) (ap (every is_byte) (drop-take 16 8 8 s refl) ∙ g)
+pub halves_bytes : (s : Bytes) → every is_byte (part 0 8 s) ≡ true → every is_byte (part 8 8 s) ≡ true → every is_byte (part 0 16 s) ≡ true
+halves_bytes s h g = every_split is_byte 8 (part 0 16 s) ∙ ap₂ ◌&&◌ (ap (every is_byte) (take-take 8 16 s (omega arith)) ∙ h) (ap (every is_byte) (drop-take 16 8 8 s refl) ∙ g)
 
 -- four stores in a row are one text laid
 pub stores : (l : Bytes) (i a b c d : ℕ) → set (set (set (set l i a) (i + 1) b) (i + 2) c) (i + 3) d ≡ sets l i (a ∷ b ∷ c ∷ d ∷ [])
@@ -252,14 +252,14 @@ eight x y h =
     ∙ ap (λ (t : Bytes). x / 256 / 256 / 256 % 256 ∷ t) (ap (bytes_of 4) (omega (arith, h))))))
 
 -- a text laid after four bytes
-after-four : (l : Bytes) (i a b c d : ℕ) (t : Bytes) → sets (sets l i (a ∷ b ∷ c ∷ d ∷ [])) (i + 4) t ≡ sets l i (a ∷ b ∷ c ∷ d ∷ t)
-after-four l i a b c d t =
+after_four : (l : Bytes) (i a b c d : ℕ) (t : Bytes) → sets (sets l i (a ∷ b ∷ c ∷ d ∷ [])) (i + 4) t ≡ sets l i (a ∷ b ∷ c ∷ d ∷ t)
+after_four l i a b c d t =
     let on : i + 4 ≡ suc (suc (suc (suc i))) = omega arith in
     ap (λ (k : ℕ). sets (sets l i (a ∷ b ∷ c ∷ d ∷ [])) k t) on
 
 in_two : (l : Bytes) (i w : ℕ) → sets (sets l i (bytes_of 4 (w % 4294967296))) (i + 4) (bytes_of 4 (w / 4294967296)) ≡ sets l i (bytes_of 8 w)
 in_two l i w =
-    after-four l i _ _ _ _ (bytes_of 4 (w / 4294967296))
+    after_four l i _ _ _ _ (bytes_of 4 (w / 4294967296))
     ∙ ap (sets l i) (sym (eight (w % 4294967296) (w / 4294967296) (mod-lt w (lit< tt))) ∙ ap (bytes_of 8) (add_comm (w % 4294967296) (w / 4294967296 * 4294967296) ∙ div-add-mod' w 4294967296))
 
 -- FOR CALLERS: a word laid
@@ -270,8 +270,8 @@ word_fits l i w h = ap (λ (b : Bool). cond b (sets l i (bytes_of 8 w)) l) (le-l
 pub word_out : (l : Bytes) (i w : ℕ) → length l < i + 8 → word_laid l i w ≡ l
 word_out l i w h = ap (λ (b : Bool). cond b (sets l i (bytes_of 8 w)) l) (lt-leb (i + 8) (length l) h)
 
-pub word-length : (o l : Bytes) (i w : ℕ) → o ≡ word_laid l i w → (o ≡ word_laid l i w) × (length o ≡ length l)
-word-length o l i w e = (e, ap length e ∙ go (leb (i + 8) (length l)))
+pub word_length : (o l : Bytes) (i w : ℕ) → o ≡ word_laid l i w → (o ≡ word_laid l i w) × (length o ≡ length l)
+word_length o l i w e = (e, ap length e ∙ go (leb (i + 8) (length l)))
   where
     go : (b : Bool) → length (cond b (sets l i (bytes_of 8 w)) l) ≡ length l
     go true = length-sets l i (bytes_of 8 w)

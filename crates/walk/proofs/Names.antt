@@ -15,26 +15,26 @@ use Rattle.paper.specs.declared.Kind.{Kind}
 use Rattle.paper.specs.declared.Kind.TheVariants.{TranA, TranB, Form, Unknown, Payment, Auth, Summary, Recap, Stray}
 use Rattle.paper.specs.Bytes.{Bytes, bytes, every, same, part, number}
 use Rattle.paper.specs.Walk.{count_of, named_form, named}
-use Rattle.paper.proofs.Laws.{both, same-eq, part-take}
+use Rattle.paper.proofs.Laws.{both, same_eq, part_take}
 use Rattle.text.specs.Words.{is_byte, little}
-use Rattle.text.proofs.Words.{little-split, little_lt, every-split, same-little}
+use Rattle.text.proofs.Words.{little_split, little_lt, every_split, same_little}
 
 -- the first k of eight bytes
 module _ (k : ℕ) (r : Bytes) (at w : ℕ) (few : k ≤ 8) (e : w ≡ little (part at 8 r)) (h : every is_byte (part at 8 r) ≡ true) where
   first : take k (part at 8 r) ≡ part at k r
   first = take-take k 8 (drop at r) few
 
-  pub first-bytes : every is_byte (part at k r) ≡ true
-  first-bytes =
+  pub first_bytes : every is_byte (part at k r) ≡ true
+  first_bytes =
       ap (every is_byte) (sym first)
-      ∙ (both (every is_byte (take k (part at 8 r))) (every is_byte (drop k (part at 8 r))) (sym (every-split is_byte k (part at 8 r)) ∙ h)).0
+      ∙ (both (every is_byte (take k (part at 8 r))) (every is_byte (drop k (part at 8 r))) (sym (every_split is_byte k (part at 8 r)) ∙ h)).0
 
-  pub first-told : w % 256 ^ k ≡ little (part at k r)
-  first-told =
+  pub first_told : w % 256 ^ k ≡ little (part at k r)
+  first_told =
       let s = part at k r in
       let q = little (drop k (part at 8 r)) in
-      let less : little s < 256 ^ k = little_lt k s first-bytes (omega (arith, length-take k (drop at r))) in
-      ap (λ (x : ℕ). x % 256 ^ k) (e ∙ little-split k (part at 8 r) ∙ ap (λ (l : Bytes). little l + q * 256 ^ k) first ∙ add_comm (little s) (q * 256 ^ k))
+      let less : little s < 256 ^ k = little_lt k s first_bytes (omega (arith, length-take k (drop at r))) in
+      ap (λ (x : ℕ). x % 256 ^ k) (e ∙ little_split k (part at 8 r) ∙ ap (λ (l : Bytes). little l + q * 256 ^ k) first ∙ add_comm (little s) (q * 256 ^ k))
       ∙ digits_mod q less
 
 -- six bytes of the record of size bytes at a place, from one of its bytes on
@@ -43,23 +43,23 @@ module _ (t : Bytes) (at size from w : ℕ) where
   six = part from 6 (part at size t)
 
   -- as the word of six bytes
-  pub short-told : (p : Bytes) → p ≡ part from 6 (take (at + size - at) (drop at t)) → w ≡ little (part 0 8 p) → every is_byte (part 0 8 p) ≡ true
+  pub short_told : (p : Bytes) → p ≡ part from 6 (take (at + size - at) (drop at t)) → w ≡ little (part 0 8 p) → every is_byte (part 0 8 p) ≡ true
       → (w ≡ little six) × (every is_byte six ≡ true)
-  short-told p e f h =
+  short_told p e f h =
       let e' : p ≡ six = e ∙ ap (λ (n : ℕ). part from 6 (take n (drop at t))) (add-sub_cancel_left at size) in
       let all : take 8 p ≡ six = take_all 8 p (omega (arith, ap length e', length-take 6 (drop from (part at size t)))) ∙ e' in
       (f ∙ ap little all, ap (every is_byte) (sym all) ∙ h)
 
   -- in a word of t
-  pub long-told : 43 ≤ size → from ≤ 14 → w ≡ little (part 0 8 (take (at + from + 8 - (at + from)) (drop (at + from) t)))
+  pub long_told : 43 ≤ size → from ≤ 14 → w ≡ little (part 0 8 (take (at + from + 8 - (at + from)) (drop (at + from) t)))
       → every is_byte (part 0 8 (take (at + from + 8 - (at + from)) (drop (at + from) t))) ≡ true → (w % 281474976710656 ≡ little six) × (every is_byte six ≡ true)
-  long-told l m f h =
-      let here : six ≡ part (at + from) 6 t = part-take size from 6 (drop at t) (omega (arith, l, m)) ∙ ap (take 6) (drop-drop from at t) in
+  long_told l m f h =
+      let here : six ≡ part (at + from) 6 t = part_take size from 6 (drop at t) (omega (arith, l, m)) ∙ ap (take 6) (drop-drop from at t) in
       let word : part 0 8 (take (at + from + 8 - (at + from)) (drop (at + from) t)) ≡ part (at + from) 8 t =
       ap (λ (n : ℕ). take 8 (take n (drop (at + from) t))) (add-sub_cancel_left (at + from) 8) ∙ take-take 8 8 (drop (at + from) t) (omega arith) in
       let e : w ≡ little (part (at + from) 8 t) = f ∙ ap little word in
       let g : every is_byte (part (at + from) 8 t) ≡ true = ap (every is_byte) (sym word) ∙ h in
-      (first-told 6 t (at + from) w (omega arith) e g ∙ ap little (sym here), ap (every is_byte) here ∙ first-bytes 6 t (at + from) w (omega arith) e g)
+      (first_told 6 t (at + from) w (omega arith) e g ∙ ap little (sym here), ap (every is_byte) here ∙ first_bytes 6 t (at + from) w (omega arith) e g)
 
 -- bytes, fewer than the name's where the record ends before, are the name exactly if the numbers are the same: its last byte is not 0
 pub is_name : (k : ℕ) (s b : Bytes) (n : ℕ) → n ≡ little s → every is_byte s ≡ true → length s ≤ suc k
@@ -67,7 +67,7 @@ pub is_name : (k : ℕ) (s b : Bytes) (n : ℕ) → n ≡ little s → every is_
 is_name k s b n e h l g m top = go (eqb (length s) (suc k)) refl ∙ ap (λ (x : ℕ). eqb x (little b)) (sym e)
   where
     go : (q : Bool) → eqb (length s) (suc k) ≡ q → same s b ≡ eqb (little s) (little b)
-    go true f = same-little s b h g (eqb-true (length s) (suc k) f ∙ sym m)
+    go true f = same_little s b h g (eqb-true (length s) (suc k) f ∙ sym m)
     go false f = not_same (same s b) refl ∙ sym (ne_eqb (little s) (little b) apart)
       where
         other : length s ≡ suc k → ⊥
@@ -80,7 +80,7 @@ is_name k s b n e h l g m top = go (eqb (length s) (suc k)) refl ∙ ap (λ (x :
         apart p = omega (arith, low, top, p)
 
         not_same : (q : Bool) → same s b ≡ q → q ≡ false
-        not_same true p = absurd (other (ap length (same-eq s b p) ∙ m))
+        not_same true p = absurd (other (ap length (same_eq s b p) ∙ m))
         not_same false p = refl
 
 -- the six bytes of a name
@@ -92,9 +92,9 @@ module _ (r : Bytes) (at n : ℕ) (e : n ≡ little (part at 6 r)) (h : every is
 abbrev pub form_by : ℕ → Kind
 form_by n = cond (eqb n 35322353438032) Payment (cond (eqb n 35322754119732) Form Unknown)
 
-pub form-by : (r : Bytes) (n : ℕ) → n ≡ little (part 14 6 r) → every is_byte (part 14 6 r) ≡ true → named_form r ≡ form_by n
+pub form_by_lem : (r : Bytes) (n : ℕ) → n ≡ little (part 14 6 r) → every is_byte (part 14 6 r) ≡ true → named_form r ≡ form_by n
 unfolding named_form
-form-by r n e h = rw (by_number r 14 n e h (bytes "PMT   ") refl refl (lit≤ tt), by_number r 14 n e h (bytes "4868  ") refl refl (lit≤ tt))
+form_by_lem r n e h = rw (by_number r 14 n e h (bytes "PMT   ") refl refl (lit≤ tt), by_number r 14 n e h (bytes "4868  ") refl refl (lit≤ tt))
 
 -- FRM, ATH, SUM, RECAP, TRANA, TRANB
 abbrev pub kind_by : ℕ → Kind → Kind
@@ -119,15 +119,15 @@ named_by r n e h =
     )
 
 -- the four digits of a count
-pub count-told : (s : Bytes) (n : ℕ) → 4 ≤ length s → n ≡ (get_or s 0 0 - 48) * 1000 + (get_or s 1 0 - 48) * 100 + (get_or s 2 0 - 48) * 10 + (get_or s 3 0 - 48) → n ≡ count_of s
+pub count_told : (s : Bytes) (n : ℕ) → 4 ≤ length s → n ≡ (get_or s 0 0 - 48) * 1000 + (get_or s 1 0 - 48) * 100 + (get_or s 2 0 - 48) * 10 + (get_or s 3 0 - 48) → n ≡ count_of s
 unfolding count_of number
-count-told (x ∷ y ∷ z ∷ u ∷ s) n l e = omega (arith, e)
-count-told [] n l e = absurd (omega (arith, l))
-count-told (x ∷ []) n l e = absurd (omega (arith, l))
-count-told (x ∷ y ∷ []) n l e = absurd (omega (arith, l))
-count-told (x ∷ y ∷ z ∷ []) n l e = absurd (omega (arith, l))
+count_told (x ∷ y ∷ z ∷ u ∷ s) n l e = omega (arith, e)
+count_told [] n l e = absurd (omega (arith, l))
+count_told (x ∷ []) n l e = absurd (omega (arith, l))
+count_told (x ∷ y ∷ []) n l e = absurd (omega (arith, l))
+count_told (x ∷ y ∷ z ∷ []) n l e = absurd (omega (arith, l))
 
 -- "****"
-pub stars-told : (s : Bytes) (w : ℕ) → w ≡ little (part 4 8 s) → every is_byte (part 4 8 s) ≡ true → same (part 4 4 s) (bytes "****") ≡ eqb (w % 4294967296) 707406378
-stars-told s w e h =
-    is_name 3 (part 4 4 s) (bytes "****") (w % 4294967296) (first-told 4 s 4 w (omega arith) e h) (first-bytes 4 s 4 w (omega arith) e h) (omega (arith, length-take 4 (drop 4 s))) refl refl (lit≤ tt)
+pub stars_told : (s : Bytes) (w : ℕ) → w ≡ little (part 4 8 s) → every is_byte (part 4 8 s) ≡ true → same (part 4 4 s) (bytes "****") ≡ eqb (w % 4294967296) 707406378
+stars_told s w e h =
+    is_name 3 (part 4 4 s) (bytes "****") (w % 4294967296) (first_told 4 s 4 w (omega arith) e h) (first_bytes 4 s 4 w (omega arith) e h) (omega (arith, length-take 4 (drop 4 s))) refl refl (lit≤ tt)

@@ -17,7 +17,7 @@ left s = drop (count_of s) s
 abbrev pub sized : Bytes → Head
 sized r = record { size = length r; kind = kind_of r }
 
--- tied to the paper by `doc-here` of walk/Docs
+-- tied to the paper by `doc_here_lem` of walk/Docs
 unfoldable pub head_of : Bytes → Head
 head_of s = sized (front s)
 
@@ -26,6 +26,6 @@ step_by true h = Record h
 step_by false h = Nothing
 
 -- what a step yields where this is left
--- tied to the paper by `stepped` and `not-stepped` of walk/Loops
+-- tied to the paper by `stepped` and `not_stepped` of walk/Loops
 unfoldable pub step : Bytes → Step
 step s = cond (eqb (length s) 0) End (step_by (starts s) (head_of s))

@@ -9,7 +9,7 @@ use lib.Dec.{eqb, leb}
 use lib.ListN.{length, take}
 use borrow.Author.Tests.{eq-eqb, ne_eqb, eqb-true, le-leb, leb-true}
 use Rattle.paper.specs.Bytes.{Bytes, run, same, digits, is_digit, digit_on, number, written}
-use Rattle.paper.proofs.Laws.{both, same-eq, same_self}
+use Rattle.paper.proofs.Laws.{both, same_eq, same_self}
 use Rattle.paper.proofs.Numbers.{value_append}
 use Rattle.words.specs.Past.{number_if}
 
@@ -22,9 +22,9 @@ digits_append (x ∷ s) t h g =
 digit : (n : ℕ) → is_digit (n % 10 + 48) ≡ true
 digit n = rw (le-leb 48 (n % 10 + 48) (omega arith), le-leb (n % 10 + 48) 57 (omega arith))
 
-pub digits-written : (w n : ℕ) → digits (written w n) ≡ true
-digits-written zero n = refl
-digits-written (suc w) n = digits_append (written w (n / 10)) ((n % 10 + 48) ∷ []) (digits-written w (n / 10)) (rw digit)
+pub digits_written : (w n : ℕ) → digits (written w n) ≡ true
+digits_written zero n = refl
+digits_written (suc w) n = digits_append (written w (n / 10)) ((n % 10 + 48) ∷ []) (digits_written w (n / 10)) (rw digit)
 
 -- the last digit apart
 split : (n m : ℕ) → 1 ≤ m → n % (m * 10) ≡ n / 10 % m * 10 + n % 10
@@ -36,12 +36,12 @@ split n m h =
     let s : n ≡ q / m * (m * 10) + (q % m * 10 + n % 10) = omega arith in
     ap (λ (x : ℕ). x % (m * 10)) s ∙ mul-add-mod_self_right (q / m) (m * 10) (q % m * 10 + n % 10) ∙ mod-eq_of_lt (omega arith)
 
-pub number-written : (w n : ℕ) → number (written w n) ≡ n % 10 ^ w
+pub number_written : (w n : ℕ) → number (written w n) ≡ n % 10 ^ w
 unfolding number
-number-written zero n = omega arith
-number-written (suc w) n =
+number_written zero n = omega arith
+number_written (suc w) n =
     value_append (written w (n / 10)) ((n % 10 + 48) ∷ []) 0
-    ∙ ap (λ (v : ℕ). digit_on v (n % 10 + 48)) (number-written w (n / 10))
+    ∙ ap (λ (v : ℕ). digit_on v (n % 10 + 48)) (number_written w (n / 10))
     ∙ last (n / 10 % 10 ^ w)
     ∙ sym (ap (λ (m : ℕ). n % m) (pow-suc 10 w) ∙ split n (10 ^ w) (one-le-pow w 10 (omega arith)))
   where
@@ -49,8 +49,8 @@ number-written (suc w) n =
     last v = omega arith
 
 -- a number that fits is written whole
-pub number-written-whole : (w n : ℕ) → n < 10 ^ w → number (written w n) ≡ n
-number-written-whole w n h = number-written w n ∙ mod-eq_of_lt h
+pub number_written_whole : (w n : ℕ) → n < 10 ^ w → number (written w n) ≡ n
+number_written_whole w n h = number_written w n ∙ mod-eq_of_lt h
 
 -- so many digits of a start, and then the digits of s
 written_on : (s : Bytes) (w a : ℕ) → digits s ≡ true → written (w + length s) (run digit_on a s) ≡ written w a ++ s
@@ -68,19 +68,19 @@ written_on (x ∷ s) w a h =
     ∙ (λ i. (written w (q i) ++ r i ∷ []) ++ s)
     ∙ append_assoc (written w a) (x ∷ []) s
 
-pub written-number : (s : Bytes) → digits s ≡ true → written (length s) (number s) ≡ s
+pub written_number : (s : Bytes) → digits s ≡ true → written (length s) (number s) ≡ s
 unfolding number
-written-number s h = let e : length s ≡ 0 + length s = omega arith in ap (λ (w : ℕ). written w (run digit_on 0 s)) e ∙ written_on s 0 0 h
+written_number s h = let e : length s ≡ 0 + length s = omega arith in ap (λ (w : ℕ). written w (run digit_on 0 s)) e ∙ written_on s 0 0 h
 
 -- two fields of digits in one width: they are the same exactly if they write the same number
 pub same_number : (s t : Bytes) → length s ≡ length t → digits s ≡ true → digits t ≡ true → same s t ≡ eqb (number s) (number t)
 same_number s t e h g = go (same s t) refl (eqb (number s) (number t)) refl
   where
     equal : number s ≡ number t → s ≡ t
-    equal n = sym (written-number s h) ∙ (λ i. written (e i) (n i)) ∙ written-number t g
+    equal n = sym (written_number s h) ∙ (λ i. written (e i) (n i)) ∙ written_number t g
 
     go : (b : Bool) → same s t ≡ b → (c : Bool) → eqb (number s) (number t) ≡ c → b ≡ c
-    go true p c q = sym (eq-eqb (number s) (number t) (ap number (same-eq s t p))) ∙ q
+    go true p c q = sym (eq-eqb (number s) (number t) (ap number (same_eq s t p))) ∙ q
     go false p true q = sym p ∙ ap (same s) (sym (equal (eqb-true (number s) (number t) q))) ∙ same_self s
     go false p false q = refl
 

@@ -12,13 +12,13 @@ abbrev Past : ℕ → ℕ → Type 0
 Past i zero = Unit {0}
 Past i (suc n) = Past i n × (i ≡ n → ⊥)
 
-past-least : (i n : ℕ) → Past i n → n ≤ i
-past-least i zero p = omega arith
-past-least i (suc n) p = let h : n ≤ i = past-least i n p.0 in let q : i ≡ n → ⊥ = p.1 in omega arith
+past_least : (i n : ℕ) → Past i n → n ≤ i
+past_least i zero p = omega arith
+past_least i (suc n) p = let h : n ≤ i = past_least i n p.0 in let q : i ≡ n → ⊥ = p.1 in omega arith
 
 -- the last arm of a match on the places of a table
 pub past_all : (rules : List ℕ) (i : ℕ) → Past i (length rules) → get_or rules i 0 ≡ 0
-past_all rules i p = get_or-eq_default rules 0 (past-least i (length rules) p)
+past_all rules i p = get_or-eq_default rules 0 (past_least i (length rules) p)
 
 bits_split : (p : ℕ → Bool) (n : ℕ) (rules : List ℕ) (later : ℕ) → bits_on p (take n rules) (bits_on p (drop n rules) later) ≡ bits_on p rules later
 bits_split p zero rules later = refl

@@ -1,6 +1,6 @@
 use mathlib.Core.Path.{refl}
 use lib.ListN.{length}
-use Rattle.ack.proofs.Ways.{refuses, rejects, is-ready, judges}
+use Rattle.ack.proofs.Ways.{refuses, rejects, is_ready, judges}
 use borrow.Author.Rules.{rules}
 use Rattle.ack.proofs.acknowledge.Statement.{statement}
 use Rattle.ack.proofs.acknowledge.Tie as tie
@@ -20,7 +20,7 @@ acknowledge_spec =
     let n = c.before.before in
     let w = n.before.before in
     let a = w.before.before.before.before.before.before.args in
-    is-ready a.t.now a.pack.now a.date.now a.name.now w.choose.result w.choose.ensures n.n.given.0.0 n.n.given.0.1.0 n.n.given.1)
+    is_ready a.t.now a.pack.now a.date.now a.name.now w.choose.result w.choose.ensures n.n.given.0.0 n.n.given.0.1.0 n.n.given.1)
     (λ c.
     let g = c.before.refusal.given in
     let w = c.before.before.before in

@@ -1,4 +1,4 @@
-use Rattle.ack.proofs.Ways.{coded-file, coded-refused}
+use Rattle.ack.proofs.Ways.{coded_file, coded_refused}
 use borrow.Author.Rules.{rules}
 use Rattle.ack.proofs.code_of.Statement.{statement}
 use Rattle.ack.proofs.code_of.Tie as tie
@@ -12,5 +12,5 @@ code_of_spec =
     (λ c κs. search rules)
     (λ c. search rules)
     (λ c. search rules)
-    (λ c. coded-file c.before.before.before.args.a c.before.a.given.0.0 c.before.a.given.1)
-    (λ c. coded-refused c.before.before.before.before.args.a c.before.before.a2.given.0.0 c.refusal-number.result c.before.before.a2.given.1 c.refusal-number.ensures.0))
+    (λ c. coded_file c.before.before.before.args.a c.before.a.given.0.0 c.before.a.given.1)
+    (λ c. coded_refused c.before.before.before.before.args.a c.before.before.a2.given.0.0 c.refusal-number.result c.before.before.a2.given.1 c.refusal-number.ensures.0))

@@ -3,7 +3,7 @@ use Prim.Native.Nat.{◌≤◌, ◌+◌, ◌-◌}
 use native.Mathlib.Omega.{arith}
 use Rattle.paper.specs.Pack.{Lines}
 use Rattle.judge.specs.Judged.{searched}
-use Rattle.ack.proofs.Tour.{Needing, need-start, need-on, need-end, tour-fits}
+use Rattle.ack.proofs.Tour.{Needing, need_start, need_on, need_end, tour_fits}
 use borrow.Author.Rules.{rules}
 use Rattle.ack.proofs.file_size.Statement.{statement}
 use Rattle.ack.proofs.file_size.Tie as tie
@@ -22,7 +22,7 @@ fits : (c : tie.After-judge invariant-loop decreases-loop)
 fits c =
     let l = c.before.before.before.before in
     let s = l.before.before.before.before.before.before.before.before in
-    let f = tour-fits (lines s) s.args.date.now s.args.t.now s.args.n l.loop.i l.loop.at l.loop.past l.loop.row l.loop.invariant.tour c.before.before.before.loop-test.true c.judge.result c.judge.ensures.0 in
+    let f = tour_fits (lines s) s.args.date.now s.args.t.now s.args.n l.loop.i l.loop.at l.loop.past l.loop.row l.loop.invariant.tour c.before.before.before.loop-test.true c.judge.result c.judge.ensures.0 in
     (f.0, omega arith)
 
 pub file_size_spec : {M : Type 1} → statement M
@@ -32,7 +32,7 @@ file_size_spec =
     invariant-loop
     decreases-loop
     (λ c κs. search rules)
-    (λ c. let s = c.before.before.before.before.before.before.before in need-start (lines s) s.args.date.now s.args.t.now s.args.n _ c.no-past.result s.requires refl c.no-past.ensures)
+    (λ c. let s = c.before.before.before.before.before.before.before in need_start (lines s) s.args.date.now s.args.t.now s.args.n _ c.no-past.result s.requires refl c.no-past.ensures)
     (λ c. search rules)
     (λ c κs. search rules)
     (λ c. let f = fits c.before.before.before in search rules)
@@ -45,9 +45,9 @@ file_size_spec =
     let g = c.before.before.before.before.before in
     let l = g.before.before.before.before in
     let s = l.before.before.before.before.before.before.before.before in
-    need-on (lines s) s.args.date.now s.args.t.now s.args.n l.loop.row l.loop.past l.loop.at l.loop.size l.loop.i l.loop.invariant g.before.before.before.loop-test.true g.judge.result g.judge.ensures.0 _ g.judge.ensures.1.0)
+    need_on (lines s) s.args.date.now s.args.t.now s.args.n l.loop.row l.loop.past l.loop.at l.loop.size l.loop.i l.loop.invariant g.before.before.before.loop-test.true g.judge.result g.judge.ensures.0 _ g.judge.ensures.1.0)
     (λ c. search rules)
     (λ c.
     let l = c.before in
     let s = l.before.before.before.before.before.before.before.before in
-    need-end (lines s) s.args.date.now s.args.t.now s.args.n l.loop.row l.loop.past l.loop.at l.loop.size l.loop.i l.loop.invariant c.loop-test.false))
+    need_end (lines s) s.args.date.now s.args.t.now s.args.n l.loop.row l.loop.past l.loop.at l.loop.size l.loop.i l.loop.invariant c.loop-test.false))

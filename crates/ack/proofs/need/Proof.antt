@@ -1,4 +1,4 @@
-use Rattle.ack.proofs.Ways.{refuses-need, rejects-need, is-ready, judges-need}
+use Rattle.ack.proofs.Ways.{refuses_need, rejects_need, is_ready, judges_need}
 use borrow.Author.Rules.{rules}
 use Rattle.ack.proofs.need.Statement.{statement}
 use Rattle.ack.proofs.need.Tie as tie
@@ -16,19 +16,19 @@ need_spec =
     let n = c.before in
     let w = n.before.before in
     let a = w.before.before.before.before.before.args in
-    is-ready a.t.now a.pack.now a.date.now a.name.now w.choose.result w.choose.ensures n.n.given.0.0 n.n.given.0.1.0 n.n.given.1)
+    is_ready a.t.now a.pack.now a.date.now a.name.now w.choose.result w.choose.ensures n.n.given.0.0 n.n.given.0.1.0 n.n.given.1)
     (λ c.
     let g = c.before.refusal.given in
     let w = c.before.before.before in
     let a = w.before.before.before.before.before.args in
-    refuses-need a.t.now a.pack.now a.date.now a.name.now w.choose.result w.choose.ensures g.0.0 g.1)
+    refuses_need a.t.now a.pack.now a.date.now a.name.now w.choose.result w.choose.ensures g.0.0 g.1)
     (λ c.
     let g = c.before.before.codes.given in
     let w = c.before.before.before.before in
     let a = w.before.before.before.before.before.args in
-    rejects-need a.t.now a.pack.now a.date.now a.name.now w.choose.result w.choose.ensures g.0.0 g.1 c.type_size.result c.type_size.ensures)
+    rejects_need a.t.now a.pack.now a.date.now a.name.now w.choose.result w.choose.ensures g.0.0 g.1 c.type_size.result c.type_size.ensures)
     (λ c.
     let n = c.before.before in
     let w = n.before.before in
     let a = w.before.before.before.before.before.args in
-    judges-need a.t.now a.pack.now a.date.now a.name.now w.choose.result w.choose.ensures n.n.given.0.0 n.n.given.0.1.0 n.n.given.1 c.need-all.result c.need-all.ensures))
+    judges_need a.t.now a.pack.now a.date.now a.name.now w.choose.result w.choose.ensures n.n.given.0.0 n.n.given.0.1.0 n.n.given.1 c.need-all.result c.need-all.ensures))

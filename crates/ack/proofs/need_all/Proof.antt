@@ -4,7 +4,7 @@ use mathlib.Core.List.{List}
 use lib.ListN.{length}
 use Rattle.paper.specs.Judge.{Turn}
 use Rattle.ack.specs.Ties.{sets_in}
-use Rattle.ack.proofs.Ways.{begun, row-turns}
+use Rattle.ack.proofs.Ways.{begun, row_turns}
 use borrow.Author.Rules.{rules}
 use Rattle.ack.proofs.need_all.Statement.{statement}
 use Rattle.ack.proofs.need_all.Tie as tie
@@ -29,6 +29,6 @@ need_all_spec =
     let s = l1.before.before.before.before in
     let a = s.args in
     let same =
-    row-turns a.t.now a.pack.now a.date.now a.n a.places s.requires l1.lines_at.result.now l2.lines-at2.result.now l3.lines-at3.result.now l4.lines-at4.result.now
+    row_turns a.t.now a.pack.now a.date.now a.n a.places s.requires l1.lines_at.result.now l2.lines-at2.result.now l3.lines-at3.result.now l4.lines-at4.result.now
     l1.lines_at.ensures l2.lines-at2.ensures l3.lines-at3.ensures l4.lines-at4.ensures in
-    c.file-size.ensures ∙ ap (λ (ts : List Turn). 360 + length (sets_in ts)) same))
+    c.file_size.ensures ∙ ap (λ (ts : List Turn). 360 + length (sets_in ts)) same))

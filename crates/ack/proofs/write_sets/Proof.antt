@@ -3,8 +3,8 @@ use Prim.Native.Nat.{◌≤◌, ◌+◌, ◌*◌, ◌-◌}
 use lib.ListN.{length}
 use Rattle.paper.specs.Pack.{Lines}
 use Rattle.judge.specs.Judged.{searched}
-use Rattle.ack.proofs.Back.{listed-long}
-use Rattle.ack.proofs.Tour.{Writing, write_start, write_fits, write_from, write_on, write_end, tour-fits}
+use Rattle.ack.proofs.Back.{listed_long}
+use Rattle.ack.proofs.Tour.{Writing, write_start, write_fits, write_from, write_on, write_end, tour_fits}
 use borrow.Author.Rules.{rules}
 use Rattle.ack.proofs.write_sets.Statement.{statement}
 use Rattle.ack.proofs.write_sets.Tie as tie
@@ -25,7 +25,7 @@ fits : (c : tie.After-judge invariant-loop decreases-loop)
 fits c =
     let l = c.before.before.before.before in
     let s = l.before.before.before.before.before.before.before.before.before in
-    let f = tour-fits (lines s) s.args.date.now s.args.t.now s.args.n l.loop.i l.loop.at l.loop.past l.loop.row l.loop.invariant.0.tour c.before.before.before.loop-test.true c.judge.result c.judge.ensures.0 in
+    let f = tour_fits (lines s) s.args.date.now s.args.t.now s.args.n l.loop.i l.loop.at l.loop.past l.loop.row l.loop.invariant.0.tour c.before.before.before.loop-test.true c.judge.result c.judge.ensures.0 in
     let w = write_fits (lines s) s.args.date.now s.args.t.now s.args.n s.args.out.now l.loop.row l.loop.past l.loop.at l.loop.to l.loop.accepted l.loop.i l.loop.out l.loop.invariant.0 c.before.before.before.loop-test.true c.judge.result c.judge.ensures.0 s.requires.1 in
     (f.0, f.1, w.0, w.1)
 
@@ -74,7 +74,7 @@ write_sets_spec =
       write_from (lines s) s.args.date.now s.args.t.now _ _ _ _ _ _ _ _ _ c.before.stand-at.result c.before.stand-at.ensures
           (write_on (lines s) s.args.date.now s.args.t.now s.args.n s.args.out.now l.loop.row l.loop.past l.loop.at l.loop.to l.loop.accepted l.loop.i l.loop.out l.loop.invariant.0 g.before.before.before.loop-test.true g.judge.result g.judge.ensures.0 s.requires.1
           _ l.loop.list _ c.before.before.before.one-if.result p.put-set.new.0 g.judge.ensures.1.0 l.loop.invariant.1 g.judge.ensures.1.1 c.before.before.before.one-if.ensures.0 c.before.before.before.one-if.ensures.1 p.put-set.ensures),
-      ap length g.judge.ensures.1.1 ∙ listed-long _ _ ∙ l.loop.invariant.1,
+      ap length g.judge.ensures.1.1 ∙ listed_long _ _ ∙ l.loop.invariant.1,
     ))
     (λ c. c.before.loop.invariant.0.same)
     (λ c.

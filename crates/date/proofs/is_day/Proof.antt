@@ -1,6 +1,6 @@
 use borrow.Author.Tests.{eq-eqb, ne_eqb}
 use Rattle.date.specs.Day.{is_day}
-use Rattle.date.proofs.Days.{four-number}
+use Rattle.date.proofs.Days.{four_number}
 use borrow.Author.Rules.{rules}
 use Rattle.date.proofs.is_day.Statement.{statement}
 use Rattle.date.proofs.is_day.Tie as tie
@@ -20,4 +20,4 @@ is_day_spec =
     (λ c κs. search rules)
     (λ c.
     let k = c.before.before.before.before in
-    rw (eq-eqb _ _ k.before.if-s-ne8.false, c.day_of_year.ensures, c.before.two_digits-4.ensures.0, c.before.before.two_digits-3.ensures.0, c.before.before.before.two_digits-2.ensures.0, k.two_digits.ensures.0, four-number k.before.before.before.args.s.now k.before.if-s-ne8.false)))
+    rw (eq-eqb _ _ k.before.if-s-ne8.false, c.day_of_year.ensures, c.before.two_digits-4.ensures.0, c.before.before.two_digits-3.ensures.0, c.before.before.before.two_digits-2.ensures.0, k.two_digits.ensures.0, four_number k.before.before.before.args.s.now k.before.if-s-ne8.false)))

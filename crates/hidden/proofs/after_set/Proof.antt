@@ -1,4 +1,4 @@
-use Rattle.hidden.proofs.Laws.{after-set}
+use Rattle.hidden.proofs.Laws.{after_set_lem}
 use borrow.Author.Rules.{rules}
 use Rattle.hidden.proofs.after_set.Statement.{statement}
 use Rattle.hidden.proofs.after_set.Tie as tie
@@ -9,4 +9,4 @@ after_set_spec =
     (tie.spec
     (λ c κs. search rules)
     (λ c κs. search rules)
-    (λ c. after-set c.before.before.before.args.s.now _ c.before.set_length.result c.before.set_length.ensures c.piece.ensures))
+    (λ c. after_set_lem c.before.before.before.args.s.now _ c.before.set_length.result c.before.set_length.ensures c.piece.ensures))

@@ -1,4 +1,4 @@
-use Rattle.hidden.proofs.Laws.{first-set}
+use Rattle.hidden.proofs.Laws.{first_set_lem}
 use borrow.Author.Rules.{rules}
 use Rattle.hidden.proofs.first_set.Statement.{statement}
 use Rattle.hidden.proofs.first_set.Tie as tie
@@ -9,4 +9,4 @@ first_set_spec =
     (tie.spec
     (λ c κs. search rules)
     (λ c κs. search rules)
-    (λ c. first-set c.before.before.before.args.s.now _ c.before.set_length.result c.before.set_length.ensures c.piece.ensures))
+    (λ c. first_set_lem c.before.before.before.args.s.now _ c.before.set_length.result c.before.set_length.ensures c.piece.ensures))

@@ -1,4 +1,4 @@
-use Rattle.hidden.proofs.Laws.{set-length}
+use Rattle.hidden.proofs.Laws.{set_length_lem}
 use borrow.Author.Rules.{rules}
 use Rattle.hidden.proofs.set_length.Statement.{statement}
 use Rattle.hidden.proofs.set_length.Tie as tie
@@ -12,4 +12,4 @@ set_length_spec =
     (λ c. search rules)
     (λ c. search rules)
     (λ c. search rules)
-    (λ c. set-length c.before.before.before.args.s.now _ c.number.result c.before.field_of-count.ensures c.number.ensures.0))
+    (λ c. set_length_lem c.before.before.before.args.s.now _ c.number.result c.before.field_of-count.ensures c.number.ensures.0))

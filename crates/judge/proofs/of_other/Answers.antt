@@ -2,11 +2,11 @@ use Rattle.std.proofs.Common.{ℕ, ap, ◌∙◌}
 use Rattle.paper.specs.declared.Findings.{Findings}
 use Rattle.paper.specs.Bytes.{bit}
 use Rattle.judge.specs.Kept.{broke_if, held, kept_of, added}
-use Rattle.judge.proofs.Kept.{none-few, added_none}
+use Rattle.judge.proofs.Kept.{none_few, added_none}
 use Rattle.judge.proofs.of_other.Goals as goal
 
 pub collected-requires : goal.collected-requires
-collected-requires c = none-few _ c.no_findings.ensures
+collected-requires c = none_few _ c.no_findings.ensures
 
 pub returns : goal.returns
 returns c =

@@ -5,7 +5,7 @@ use lib.ListN.{length}
 use Rattle.paper.specs.Bytes.{Bytes}
 use Rattle.lookup.specs.Find.{mid, count_for}
 use Rattle.lookup.proofs.Bisect.{done}
-use Rattle.lookup.proofs.Runs.{row_fits, key_fits, place-start, halve_up, halve_down}
+use Rattle.lookup.proofs.Runs.{row_fits, key_fits, place_start, halve_up, halve_down}
 use Rattle.lookup.proofs.place_for.Goals as goal
 
 -- the line in the middle lies within the block, and has the key's width
@@ -16,7 +16,7 @@ wide : (w n low high : ℕ) (key s : Bytes) → n ≡ count_for w key s → low 
 wide w n low high key s e h l = key_fits w key s (mid low high) (subst (λ (m : ℕ). mid low high < m) e (omega arith))
 
 pub loop-low-init : goal.loop-low-init
-loop-low-init c = (omega arith, omega arith, place-start _ _ _ _ c.requires)
+loop-low-init c = (omega arith, omega arith, place_start _ _ _ _ c.requires)
 
 pub overflow_mul-at : goal.overflow_mul-at
 overflow_mul-at c =

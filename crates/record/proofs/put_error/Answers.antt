@@ -1,9 +1,9 @@
 use borrow.Author.Rules.{rules}
-use Rattle.record.proofs.Laws.{not-placed, lent_placed, length_error}
+use Rattle.record.proofs.Laws.{not_placed, lent_placed, length_error}
 use Rattle.record.proofs.put_error.Goals as goal
 
 pub returns-then-not-fits : goal.returns-then-not-fits
-returns-then-not-fits c = search not-placed
+returns-then-not-fits c = search not_placed
 
 pub returns : goal.returns
 returns c = search (rules, lent_placed, length_error)

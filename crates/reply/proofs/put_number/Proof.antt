@@ -1,4 +1,4 @@
-use Rattle.reply.proofs.Laws.{rest-long, rest-laid}
+use Rattle.reply.proofs.Laws.{rest_long, rest_laid}
 use borrow.Author.Rules.{rules}
 use Rattle.reply.proofs.put_number.Statement.{statement}
 use Rattle.reply.proofs.put_number.Tie as tie
@@ -20,6 +20,6 @@ put_number_spec =
     let z = l.before.before.before.before in
     let d = z.before in
     let a = d.before.before.args in (
-      rest-long a.n z.zeros-before.result d.number-line.result d.number-line.ensures z.zeros-before.ensures.0,
-      rest-laid a.n z.zeros-before.result d.number-line.result d.number-line.ensures z.zeros-before.ensures.0 a.out.now _ l.lay.ensures,
+      rest_long a.n z.zeros-before.result d.number-line.result d.number-line.ensures z.zeros-before.ensures.0,
+      rest_laid a.n z.zeros-before.result d.number-line.result d.number-line.ensures z.zeros-before.ensures.0 a.out.now _ l.lay.ensures,
     )))

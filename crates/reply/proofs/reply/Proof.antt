@@ -1,5 +1,5 @@
 use lib.ListN.{length}
-use Rattle.reply.proofs.Laws.{shows-file, shows_refusal}
+use Rattle.reply.proofs.Laws.{shows_file, shows_refusal}
 use borrow.Author.Rules.{rules}
 use Rattle.reply.proofs.reply.Statement.{statement}
 use Rattle.reply.proofs.reply.Tie as tie
@@ -17,7 +17,7 @@ reply_spec =
     (λ c.
     let k = c.before.before.before.before.before in
     let a = k.before.before.before.before.before.before.before.args in
-    shows-file a.t.now a.pack.now a.date.now a.name.now (length a.out.now) k.acknowledge.result c.before.a.given.0.0 a.out.now _ k.acknowledge.ensures.0 c.before.a.given.1 k.acknowledge.ensures.1)
+    shows_file a.t.now a.pack.now a.date.now a.name.now (length a.out.now) k.acknowledge.result c.before.a.given.0.0 a.out.now _ k.acknowledge.ensures.0 c.before.a.given.1 k.acknowledge.ensures.1)
     (λ c. search rules)
     (λ c.
     let p = c.before.before in

@@ -1,4 +1,4 @@
-use Rattle.reply.proofs.Laws.{tells-number, tells_refusal}
+use Rattle.reply.proofs.Laws.{tells_number, tells_refusal}
 use borrow.Author.Rules.{rules}
 use Rattle.reply.proofs.room.Statement.{statement}
 use Rattle.reply.proofs.room.Tie as tie
@@ -19,7 +19,7 @@ room_spec =
     let g = p.before.before.before.a.given in
     let k = p.before.before.before.before.before in
     let a = k.before.before.before.before.before.before.args in
-    tells-number k.need.result _ g.0.0 p.put-number.result a.out.now _ k.need.ensures g.1 p.put-number.ensures.0 p.put-number.ensures.1)
+    tells_number k.need.result _ g.0.0 p.put-number.result a.out.now _ k.need.ensures g.1 p.put-number.ensures.0 p.put-number.ensures.1)
     (λ c. search rules)
     (λ c.
     let p = c.before.before in

@@ -2,7 +2,7 @@ use mathlib.Core.Path.{◌≡◌, refl, sym, ◌∙◌}
 use Prim.Native.Nat.{◌≤◌}
 use native.Mathlib.Omega.{arith}
 use Rattle.reply.specs.Digits.{leads}
-use Rattle.reply.proofs.Laws.{leads-here, leads-on, leads-end}
+use Rattle.reply.proofs.Laws.{leads_here, leads_on, leads_end}
 use borrow.Author.Rules.{rules}
 use Rattle.reply.proofs.zeros_before.Statement.{statement}
 use Rattle.reply.proofs.zeros_before.Tie as tie
@@ -23,11 +23,11 @@ zeros_before_spec =
     (λ c. search rules)
     (λ c.
     let l = c.before.before.loop in
-    (sym (leads-here l.zeros l.left c.before.loop-test.true c.if1.true) ∙ l.invariant.0, omega (arith, l.invariant.1)))
+    (sym (leads_here l.zeros l.left c.before.loop-test.true c.if1.true) ∙ l.invariant.0, omega (arith, l.invariant.1)))
     (λ c. search rules)
     (λ c.
     let l = c.before.before.loop in
-    (sym (leads-on l.zeros l.left c.before.loop-test.true c.if1.false) ∙ l.invariant.0, omega (arith, l.invariant.1)))
+    (sym (leads_on l.zeros l.left c.before.loop-test.true c.if1.false) ∙ l.invariant.0, omega (arith, l.invariant.1)))
     (λ c.
     let l = c.before.loop in
-    (sym (leads-end l.zeros l.left c.loop-test.false) ∙ l.invariant.0, omega arith)))
+    (sym (leads_end l.zeros l.left c.loop-test.false) ∙ l.invariant.0, omega arith)))

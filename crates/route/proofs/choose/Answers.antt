@@ -1,4 +1,4 @@
-use Rattle.route.proofs.Laws.{long, bad_pack, bad_date, free, broken, long-enough, by-twelve}
+use Rattle.route.proofs.Laws.{long, bad_pack, bad_date, free, broken, long_enough, by_twelve}
 use Rattle.route.proofs.choose.Goals as goal
 
 pub returns-then-t-gt65536 : goal.returns-then-t-gt65536
@@ -24,7 +24,7 @@ returns-in_default-structure c =
     broken a.t.now a.pack.now a.date.now a.name.now f c.structure.result c.structure.ensures c.in_default-structure.is
 
 pub by_digits-requires : goal.by_digits-requires
-by_digits-requires c = long-enough c.args.t.now c.structure.result c.in-Sound.n c.structure.ensures c.in-Sound.is
+by_digits-requires c = long_enough c.args.t.now c.structure.result c.in-Sound.n c.structure.ensures c.in-Sound.is
 
 pub returns : goal.returns
 returns c =
@@ -32,5 +32,5 @@ returns c =
     let f =
     free a.t.now a.pack.now a.date.now a.name.now c.if-t-gt65536.false c.check.result c.check.ensures c.in-Good.places c.in-Good.is
     c.valid_date.result c.is_file_name.result c.valid_date.ensures c.is_file_name.ensures c.if-not-valid_date-is_file_name.false in
-    by-twelve a.t.now a.pack.now a.date.now a.name.now f c.structure.result c.structure.ensures c.in-Sound.n c.check.result c.in-Good.places c.lines_at-sent.result.now c.by_digits.result
+    by_twelve a.t.now a.pack.now a.date.now a.name.now f c.structure.result c.structure.ensures c.in-Sound.n c.check.result c.in-Good.places c.lines_at-sent.result.now c.by_digits.result
     c.in-Sound.is c.check.ensures c.in-Good.is c.lines_at-sent.ensures c.by_digits.ensures

@@ -1,4 +1,4 @@
-use Rattle.sets.proofs.Laws.{rows_next, rows-done}
+use Rattle.sets.proofs.Laws.{rows_next, rows_done}
 use Rattle.sets.proofs.put_errors.Goals as goal
 
 pub loop-i-preserved : goal.loop-i-preserved
@@ -11,4 +11,4 @@ pub returns : goal.returns
 returns c =
     let a = c.args in
     let l = c.loop-i in
-    rows-done a.ssn.now a.t.now a.list.now a.end a.rows a.out.now l.out l.n l.i l.invariant c.loop-i-test.false
+    rows_done a.ssn.now a.t.now a.list.now a.end a.rows a.out.now l.out l.n l.i l.invariant c.loop-i-test.false

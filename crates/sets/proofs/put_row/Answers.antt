@@ -3,26 +3,26 @@ use Rattle.std.proofs.Common.{rules}
 use Rattle.paper.specs.Bytes.{bytes}
 use Rattle.paper.specs.Judge.{type_at, occurrence_at}
 use Rattle.record.specs.Parts.{error_model}
-use Rattle.sets.proofs.Laws.{row-full, row-past, row_done, row_next}
+use Rattle.sets.proofs.Laws.{row_full, row_past, row_done, row_next}
 use Rattle.sets.proofs.put_row.Goals as goal
 
 pub returns-then-end-n-clause-out_after : goal.returns-then-end-n-clause-out_after
 returns-then-end-n-clause-out_after c =
     let a = c.args in
     let l = c.loop-left in
-    (row-full a.ssn.now a.r.now a.kind a.end a.out.now l.out a.first a.set l.n l.left l.invariant c.if-end-n.true).1
+    (row_full a.ssn.now a.r.now a.kind a.end a.out.now l.out a.first a.set l.n l.left l.invariant c.if-end-n.true).1
 
 pub returns-then-text-eq-NO_RULE-clause-value : goal.returns-then-text-eq-NO_RULE-clause-value
 returns-then-text-eq-NO_RULE-clause-value c =
     let a = c.args in
     let l = c.loop-left in
-    (row-past a.ssn.now a.r.now a.kind a.end a.out.now l.out a.first a.set l.n l.left l.invariant c.text_at-text.result c.text_at-text.ensures c.if-text-eq-NO_RULE.true).0
+    (row_past a.ssn.now a.r.now a.kind a.end a.out.now l.out a.first a.set l.n l.left l.invariant c.text_at-text.result c.text_at-text.ensures c.if-text-eq-NO_RULE.true).0
 
 pub returns-then-text-eq-NO_RULE-clause-out_after : goal.returns-then-text-eq-NO_RULE-clause-out_after
 returns-then-text-eq-NO_RULE-clause-out_after c =
     let a = c.args in
     let l = c.loop-left in
-    (row-past a.ssn.now a.r.now a.kind a.end a.out.now l.out a.first a.set l.n l.left l.invariant c.text_at-text.result c.text_at-text.ensures c.if-text-eq-NO_RULE.true).1
+    (row_past a.ssn.now a.r.now a.kind a.end a.out.now l.out a.first a.set l.n l.left l.invariant c.text_at-text.result c.text_at-text.ensures c.if-text-eq-NO_RULE.true).1
 
 pub loop-left-preserved : goal.loop-left-preserved
 unfolding type_at occurrence_at

@@ -6,7 +6,7 @@ use Prim.Native.Nat.{◌≤◌, ◌-◌, ◌+◌}
 use lib.Dec.{eqb}
 use lib.ListN.{length, take}
 use Rattle.paper.specs.Bytes.{every}
-use Rattle.text.proofs.Eights.{eight-more, eight-not, eight-last}
+use Rattle.text.proofs.Eights.{eight_more, eight_not, eight_last}
 use Rattle.text.proofs.all_are.Statement.{statement}
 use Rattle.text.proofs.all_are.Tie as tie
 
@@ -31,15 +31,15 @@ all_are_spec =
     (λ c κs. search rules)
     (λ c.
     let a = c.before.before.before.before.before.before.before.args in
-    eight-not a.b c.before.before.before.loop-at.at _ _ a.s.now (search rules) (search rules) (search rules) c.before.word.ensures.0 (search rules) (search rules) c.if-word-eight.true)
+    eight_not a.b c.before.before.before.loop-at.at _ _ a.s.now (search rules) (search rules) (search rules) c.before.word.ensures.0 (search rules) (search rules) c.if-word-eight.true)
     (λ c. search rules)
     (λ c. search rules)
     (λ c.
     let a = c.before.before.before.before.before.before.before.args in (
       omega arith,
-      eight-more a.b c.before.before.before.loop-at.at _ _ a.s.now (search rules) (search rules) (search rules) c.before.word.ensures.0 (search rules) (search rules) c.if-word-eight.false,
+      eight_more a.b c.before.before.before.loop-at.at _ _ a.s.now (search rules) (search rules) (search rules) c.before.word.ensures.0 (search rules) (search rules) c.if-word-eight.false,
     ))
     (λ c κs. search rules)
     (λ c.
     let a = c.before.before.before.before.before.before.args in
-    eight-last a.b c.before.before.loop-at.at (length a.s.now - 8) _ _ a.s.now (search rules) (search rules) (search rules) c.word-2.ensures.0 (search rules) (search rules) (search rules)))
+    eight_last a.b c.before.before.loop-at.at (length a.s.now - 8) _ _ a.s.now (search rules) (search rules) (search rules) c.word-2.ensures.0 (search rules) (search rules) (search rules)))

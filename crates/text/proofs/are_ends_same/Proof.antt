@@ -1,5 +1,5 @@
 use borrow.Author.Rules.{rules}
-use Rattle.text.proofs.Eights.{ends-told}
+use Rattle.text.proofs.Eights.{ends_told}
 use Rattle.text.proofs.are_ends_same.Statement.{statement}
 use Rattle.text.proofs.are_ends_same.Tie as tie
 
@@ -19,4 +19,4 @@ are_ends_same_spec =
     let e2 = c.before.before.word-2.ensures in
     let e3 = c.before.word-3.ensures in
     let e4 = c.word-4.ensures in
-    ends-told a.a.now a.b.now p.0 p.1 p.2 _ _ _ _ e1.0 e1.1 e2.0 e2.1 e3.0 e3.1 e4.0 e4.1))
+    ends_told a.a.now a.b.now p.0 p.1 p.2 _ _ _ _ e1.0 e1.1 e2.0 e2.1 e3.0 e3.1 e4.0 e4.1))

@@ -1,6 +1,6 @@
 use borrow.Author.Rules.{rules}
 use native.Mathlib.Omega.{arith}
-use Rattle.text.proofs.Words.{four-told}
+use Rattle.text.proofs.Words.{four_told}
 use Rattle.text.proofs.four.Statement.{statement}
 use Rattle.text.proofs.four.Tie as tie
 
@@ -23,5 +23,5 @@ four_spec =
     (λ c. search rules)
     (λ c. search rules)
     (λ c.
-    let t = four-told c.before.before.before.before.before.before.before.before.before.args.s.now _ (omega arith) (omega arith) (omega arith) (omega arith) (omega arith) (omega arith) in
+    let t = four_told c.before.before.before.before.before.before.before.before.before.args.s.now _ (omega arith) (omega arith) (omega arith) (omega arith) (omega arith) (omega arith) in
     (t.0, t.1, omega arith)))

@@ -1,5 +1,5 @@
 use borrow.Author.Rules.{rules}
-use Rattle.text.proofs.Words.{halves, halves-bytes}
+use Rattle.text.proofs.Words.{halves, halves_bytes}
 use Rattle.text.proofs.key_of.Statement.{statement}
 use Rattle.text.proofs.key_of.Tie as tie
 
@@ -11,4 +11,4 @@ key_of_spec =
     (λ c κs. search rules)
     (λ c.
     let s = c.before.before.before.args.s.now in
-    (halves s _ _ c.before.rank.ensures.0 c.rank-2.ensures.0, halves-bytes s c.before.rank.ensures.1 c.rank-2.ensures.1)))
+    (halves s _ _ c.before.rank.ensures.0 c.rank-2.ensures.0, halves_bytes s c.before.rank.ensures.1 c.rank-2.ensures.1)))

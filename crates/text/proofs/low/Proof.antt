@@ -6,7 +6,7 @@ use Prim.Native.Nat.{◌≤◌}
 use lib.ListN.{length, drop}
 use Rattle.paper.specs.Bytes.{every}
 use Rattle.text.specs.Words.{is_byte, little}
-use Rattle.text.proofs.Words.{low-start, low_fits, low_again, low-done}
+use Rattle.text.proofs.Words.{low_start, low_fits, low_again, low_done}
 use Rattle.text.proofs.low.Statement.{statement}
 use Rattle.text.proofs.low.Tie as tie
 
@@ -22,7 +22,7 @@ low_spec =
     (tie.spec
     invariant-loop
     decreases-loop
-    (λ c. let t = low-start c.before.args.s.now in (omega arith, t.0, t.1))
+    (λ c. let t = low_start c.before.args.s.now in (omega arith, t.0, t.1))
     (λ c. search rules)
     (λ c. let d = c.before.loop-i in omega (arith, low_fits c.before.before.before.args.s.now d.i d.n (omega arith) (omega arith) d.invariant.1 d.invariant.2))
     (λ c. search rules)
@@ -30,4 +30,4 @@ low_spec =
     (λ c. let d = c.before.before.before.loop-i in omega (arith, low_fits c.before.before.before.before.before.args.s.now d.i d.n (omega arith) (omega arith) d.invariant.1 d.invariant.2))
     (λ c. search rules)
     (λ c. let d = c.before.before.before.loop-i in let t = low_again c.before.before.before.before.before.args.s.now d.i d.n _ (omega arith) (omega arith) d.invariant.1 d.invariant.2 c.wide.ensures.0 c.wide.ensures.1 in (omega arith, t.0, t.1))
-    (λ c. let d = c.before.loop-i in low-done c.before.before.before.args.s.now d.i d.n (omega arith) d.invariant.1 d.invariant.2))
+    (λ c. let d = c.before.loop-i in low_done c.before.before.before.args.s.now d.i d.n (omega arith) d.invariant.1 d.invariant.2))

@@ -2,7 +2,7 @@ use borrow.Author.Rules.{rules}
 use mathlib.Core.Path.{ap, ◌∙◌}
 use Rattle.paper.specs.Bytes.{part}
 use Rattle.text.specs.Words.{high, bytes_of}
-use Rattle.text.proofs.Words.{high-little}
+use Rattle.text.proofs.Words.{high_little}
 use Rattle.text.proofs.rank.Statement.{statement}
 use Rattle.text.proofs.rank.Tie as tie
 
@@ -14,4 +14,4 @@ rank_spec =
     (λ c κs. search rules)
     (λ c.
     let a = c.before.before.before.args in
-    (c.turned.ensures ∙ ap (λ w. high 8 (bytes_of 8 w)) c.before.word.ensures.0 ∙ high-little 8 (part a.at 8 a.s.now) c.before.word.ensures.1, c.before.word.ensures.1)))
+    (c.turned.ensures ∙ ap (λ w. high 8 (bytes_of 8 w)) c.before.word.ensures.0 ∙ high_little 8 (part a.at 8 a.s.now) c.before.word.ensures.1, c.before.word.ensures.1)))

@@ -2,7 +2,7 @@ use borrow.Author.Rules.{rules}
 use Prim.{tt}
 use native.Mathlib.Nat.{mod-lt}
 use lib.Dec.{lit<}
-use Rattle.text.proofs.Words.{turned-fits, turned-told}
+use Rattle.text.proofs.Words.{turned_fits, turned_told}
 use Rattle.text.proofs.turned.Statement.{statement}
 use Rattle.text.proofs.turned.Tie as tie
 
@@ -23,5 +23,5 @@ turned_spec =
     (λ c. search rules)
     (λ c. search rules)
     (λ c. search rules)
-    (λ c. record { fits = turned-fits _ _ _ _ _ _ _ _ (mod-lt _ (lit< tt)) (mod-lt _ (lit< tt)) (mod-lt _ (lit< tt)) (mod-lt _ (lit< tt)) (mod-lt _ (lit< tt)) (mod-lt _ (lit< tt)) (mod-lt _ (lit< tt)) (mod-lt _ (lit< tt)) })
-    (λ c. turned-told _ _ _ _ _ _ _ _))
+    (λ c. record { fits = turned_fits _ _ _ _ _ _ _ _ (mod-lt _ (lit< tt)) (mod-lt _ (lit< tt)) (mod-lt _ (lit< tt)) (mod-lt _ (lit< tt)) (mod-lt _ (lit< tt)) (mod-lt _ (lit< tt)) (mod-lt _ (lit< tt)) (mod-lt _ (lit< tt)) })
+    (λ c. turned_told _ _ _ _ _ _ _ _))

@@ -1,6 +1,6 @@
 use borrow.Author.Rules.{rules}
-use Rattle.text.proofs.Laws.{part-short}
-use Rattle.text.proofs.Words.{word-told, word_bytes}
+use Rattle.text.proofs.Laws.{part_short}
+use Rattle.text.proofs.Words.{word_told, word_bytes}
 use Rattle.text.proofs.word.Statement.{statement}
 use Rattle.text.proofs.word.Tie as tie
 
@@ -9,7 +9,7 @@ word_spec =
     tie.close
     (tie.spec
     (λ c κs. search rules)
-    (λ c κs. search (rules, part-short))
+    (λ c κs. search (rules, part_short))
     (λ c. (cc, cc))
     (λ c. search rules)
     (λ c. search rules)
@@ -21,4 +21,4 @@ word_spec =
     (λ c κs. search rules)
     (λ c. search rules)
     (λ c. search rules)
-    (λ c. (search (rules, word-told), search (rules, word_bytes))))
+    (λ c. (search (rules, word_told), search (rules, word_bytes))))

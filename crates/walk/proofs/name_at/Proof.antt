@@ -1,4 +1,4 @@
-use Rattle.walk.proofs.Names.{short-told, long-told}
+use Rattle.walk.proofs.Names.{short_told, long_told}
 use borrow.Author.Rules.{rules}
 use Rattle.walk.proofs.name_at.Statement.{statement}
 use Rattle.walk.proofs.name_at.Tie as tie
@@ -13,11 +13,11 @@ name_at_spec =
     (λ c. search rules)
     (λ c κs. search rules)
     (λ c κs. search rules)
-    (λ c. let a = c.before.before.before.before.before.args in short-told a.t.now a.at a.size a.«from» _ _ c.before.piece.ensures c.word.ensures.0 c.word.ensures.1)
+    (λ c. let a = c.before.before.before.before.before.args in short_told a.t.now a.at a.size a.«from» _ _ c.before.piece.ensures c.word.ensures.0 c.word.ensures.1)
     (λ c. search rules)
     (λ c. search rules)
     (λ c. search rules)
     (λ c. search rules)
     (λ c. search rules)
     (λ c κs. search rules)
-    (λ c. let a = c.before.before.before.before.args in long-told a.t.now a.at a.size a.«from» _ c.before.before.if-size-lt43.false c.before.before.before.before.requires.1 c.word-2.ensures.0 c.word-2.ensures.1))
+    (λ c. let a = c.before.before.before.before.args in long_told a.t.now a.at a.size a.«from» _ c.before.before.if-size-lt43.false c.before.before.before.before.requires.1 c.word-2.ensures.0 c.word-2.ensures.1))

@@ -1,17 +1,17 @@
 use native.Mathlib.Omega.{arith}
 use borrow.Author.Tests.{ne_eqb}
-use Rattle.walk.proofs.Names.{form-by}
+use Rattle.walk.proofs.Names.{form_by_lem}
 use Rattle.walk.proofs.named_form.Goals as goal
 
 pub returns-in-35322353438032 : goal.returns-in-35322353438032
-returns-in-35322353438032 c = rw (form-by _ _ c.name_at.ensures.0 c.name_at.ensures.1, c.in-35322353438032.is)
+returns-in-35322353438032 c = rw (form_by_lem _ _ c.name_at.ensures.0 c.name_at.ensures.1, c.in-35322353438032.is)
 
 pub returns-in-35322754119732 : goal.returns-in-35322754119732
-returns-in-35322754119732 c = rw (form-by _ _ c.name_at.ensures.0 c.name_at.ensures.1, c.in-35322754119732.is)
+returns-in-35322754119732 c = rw (form_by_lem _ _ c.name_at.ensures.0 c.name_at.ensures.1, c.in-35322754119732.is)
 
 pub returns-in_default : goal.returns-in_default
 returns-in_default c = rw (
-  form-by _ _ c.name_at.ensures.0 c.name_at.ensures.1,
+  form_by_lem _ _ c.name_at.ensures.0 c.name_at.ensures.1,
   ne_eqb c.name_at.result 35322353438032 (λ e. omega arith),
   ne_eqb c.name_at.result 35322754119732 (λ e. omega arith),
 )

@@ -8,22 +8,22 @@ use lib.ListN.{length}
 use lib.Seq.{take_all}
 use Rattle.paper.specs.Bytes.{Bytes, every, before, part}
 use Rattle.text.specs.Words.{is_byte, high}
-use Rattle.text.proofs.Words.{before-high}
+use Rattle.text.proofs.Words.{before_high}
 use borrow.Author.Rules.{rules}
 use Rattle.words.proofs.is_after.Statement.{statement}
 use Rattle.words.proofs.is_after.Tie as tie
 
 -- two days of eight bytes, as numbers
-by-numbers : (s t : Bytes) {a b : ℕ} → length s ≡ 8 → length t ≡ 8
+by_numbers : (s t : Bytes) {a b : ℕ} → length s ≡ 8 → length t ≡ 8
     → a ≡ high 8 (part 0 8 s) → every is_byte (part 0 8 s) ≡ true
     → b ≡ high 8 (part 0 8 t) → every is_byte (part 0 8 t) ≡ true
     → ltb a b ≡ before s t
-by-numbers s t l m e h f g =
+by_numbers s t l m e h f g =
     let p : part 0 8 s ≡ s = take_all 8 s (le_of_eq l) in
     let q : part 0 8 t ≡ t = take_all 8 t (le_of_eq m) in
     (λ i. ltb (e i) (f i))
     ∙ (λ i. ltb (high 8 (p i)) (high 8 (q i)))
-    ∙ sym (before-high 8 s t (sym (ap (every is_byte) p) ∙ h) (sym (ap (every is_byte) q) ∙ g) (l ∙ sym m) (omega arith))
+    ∙ sym (before_high 8 s t (sym (ap (every is_byte) p) ∙ h) (sym (ap (every is_byte) q) ∙ g) (l ∙ sym m) (omega arith))
 
 pub is_after_spec : {M : Type 1} → statement M
 is_after_spec =
@@ -33,4 +33,4 @@ is_after_spec =
     (λ c. search rules)
     (λ c κs. search rules)
     (λ c κs. search rules)
-    (λ c. by-numbers c.before.before.before.before.before.args.last.now c.before.before.before.before.before.args.day.now c.before.before.before.before.before.requires c.before.before.if-day-ne8.false c.before.rank.ensures.0 c.before.rank.ensures.1 c.rank-2.ensures.0 c.rank-2.ensures.1))
+    (λ c. by_numbers c.before.before.before.before.before.args.last.now c.before.before.before.before.before.args.day.now c.before.before.before.before.before.requires c.before.before.if-day-ne8.false c.before.rank.ensures.0 c.before.rank.ensures.1 c.rank-2.ensures.0 c.rank-2.ensures.1))
