@@ -40,7 +40,7 @@ module _ (p q : ℕ → Bool) (s : List ℕ) (i : ℕ) (f : Bool) (v : beside p 
       go (x ∷ []) e = refl
       go (x ∷ y ∷ l) e = absurd (omega (arith, length-drop (i - 1) s, ap length e))
 
-pub ruleset beside-loop = (beside_again, beside_done)
+pub ruleset beside_loop = (beside_again, beside_done)
 
 neither : (a b : Bool) → (a || b) ≡ false → (a ≡ false) × (b ≡ false)
 neither true b h = absurd (never (sym h))
@@ -84,4 +84,4 @@ module _ (s : List ℕ) (i : ℕ) (v : zeros_then_blanks s ≡ zeros_then_blanks
   pub zeros_only : length s ≤ i → true ≡ zeros_then_blanks s
   zeros_only h = sym (v ∙ ap zeros_then_blanks (ended s i h))
 
-pub ruleset zeros-loop = (zeros_again, zeros_end, zeros_only)
+pub ruleset zeros_loop = (zeros_again, zeros_end, zeros_only)

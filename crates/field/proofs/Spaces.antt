@@ -160,7 +160,7 @@ module _ (s : Bytes) (i : ℕ) (f : Bool) (v : gap s ≡ (f || gap (drop (i - 2)
       go (x ∷ y ∷ []) e = refl
       go (x ∷ y ∷ z ∷ l) e = absurd (omega (arith, length-drop (i - 2) s, ap length e))
 
-pub ruleset gap-loop = (gap_again, gap_done)
+pub ruleset gap_loop = (gap_again, gap_done)
 
 -- THE BYTES BEFORE THE FIRST THAT DOES NOT PASS, of a test that a space does not pass
 

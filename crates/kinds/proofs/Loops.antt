@@ -41,6 +41,6 @@ module _ (p : ℕ → Bool) (s : List ℕ) (i : ℕ) where
   pub count_done : (n : ℕ) → count p s ≡ n + count p (drop i s) → length s ≤ i → n ≡ count p s
   count_done n v h = let w : count p (drop i s) ≡ 0 = ap (count p) (ended s i h) in omega (arith, v, w)
 
-pub ruleset first-loop = (first_again, first_here, first_none)
+pub ruleset first_loop = (first_again, first_here, first_none)
 
-pub ruleset count-loop = (count_again, count_done)
+pub ruleset count_loop = (count_again, count_done)

@@ -66,7 +66,7 @@ module _ (p : Bytes → Bool) (w m at : ℕ) (s : Bytes) (v r : Bool) (e : v ≡
 pub any_no : (p : Bytes → Bool) (w m : ℕ) (s : Bytes) (v : Bool) → v ≡ any p (rows m w s) → m ≤ 0 → false ≡ v
 any_no p w m s v e h = sym (e ∙ ap (any p) (no_rows m w s h))
 
-pub ruleset any-line = (any_again, any_yes, any_no)
+pub ruleset any_line = (any_again, any_yes, any_no)
 
 -- A loop that holds each line's number against the one before, x; y is the number of the line `&s[at..at + w]`, r the result at the two
 module _ (k w m at x y : ℕ) (s : Bytes) (v r : Bool) (e : v ≡ climbs k x (rows m w (drop at s))) (h : 0 < m) (q : y ≡ rank_of k (take (at + w - at) (drop at s))) (t : r ≡ ltb x y) where
@@ -86,7 +86,7 @@ module _ (k w m at x y : ℕ) (s : Bytes) (v r : Bool) (e : v ≡ climbs k x (ro
 pub climb_yes : (k w m x : ℕ) (s : Bytes) (v : Bool) → v ≡ climbs k x (rows m w s) → m ≤ 0 → true ≡ v
 climb_yes k w m x s v e h = sym (e ∙ ap (climbs k x) (no_rows m w s h))
 
-pub ruleset climb-line = (climb_again, climb_no, climb_yes)
+pub ruleset climb_line = (climb_again, climb_no, climb_yes)
 
 -- a kind, with the width of its lines, the width of what ascends, and the test on a line
 pub record Kind (k w r : ℕ) (p : Bytes → Bool) : Type 0 where

@@ -259,7 +259,7 @@ module _ (w m at v : ℕ) (key s : Bytes) (r : Bool) (e : v ≡ at + length (lea
 pub run_done : (w m at v : ℕ) (key s : Bytes) → v ≡ at + length (lead key (rows m w s)) * w → m ≤ 0 → at ≡ v
 run_done w m at v key s e h = sym (e ∙ ap (λ (ls : List Bytes). at + length (lead key ls) * w) (no_rows m w s h) ∙ omega (arith, zero-mul w))
 
-pub ruleset run-loop = (run_again, run_stop, run_done)
+pub ruleset run_loop = (run_again, run_stop, run_done)
 
 -- what the searches answer, from the lines looked at and the place
 module _ (w : ℕ) (key s : Bytes) (n i : ℕ) (e : n ≡ count_for w key s) (f : i ≡ place_for w key s) where

@@ -5,7 +5,7 @@ use Prim.Native.Nat.{◌≤◌, ◌-◌}
 use lib.ListN.{length, drop}
 use lib.Dec.{eqb}
 use Rattle.paper.specs.Fields.{beside}
-use Rattle.field.proofs.Laws.{beside-loop}
+use Rattle.field.proofs.Laws.{beside_loop}
 use Rattle.field.proofs.beside.Statement.{statement}
 use Rattle.field.proofs.beside.Tie as tie
 
@@ -28,5 +28,5 @@ beside_spec =
     (λ c. search rules)
     (λ c. search rules)
     (λ c. search rules)
-    (λ c. search (rules, beside-loop))
-    (λ c. search (rules, beside-loop)))
+    (λ c. search (rules, beside_loop))
+    (λ c. search (rules, beside_loop)))

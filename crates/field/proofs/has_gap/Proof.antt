@@ -4,7 +4,7 @@ use mathlib.Core.Bool.{◌||◌}
 use Prim.Native.Nat.{◌+◌, ◌-◌, ◌≤◌}
 use lib.ListN.{length, drop}
 use Rattle.field.specs.Gap.{gap}
-use Rattle.field.proofs.Spaces.{gap-loop}
+use Rattle.field.proofs.Spaces.{gap_loop}
 use Rattle.field.proofs.has_gap.Statement.{statement}
 use Rattle.field.proofs.has_gap.Tie as tie
 
@@ -28,5 +28,5 @@ has_gap_spec =
     (λ c. search rules)
     (λ c. search rules)
     (λ c. search rules)
-    (λ c. search (rules, gap-loop))
-    (λ c. search (rules, gap-loop)))
+    (λ c. search (rules, gap_loop))
+    (λ c. search (rules, gap_loop)))

@@ -3,7 +3,7 @@ use mathlib.Core.Path.{◌≡◌}
 use Prim.Native.Nat.{◌≤◌, ◌-◌}
 use lib.ListN.{length, drop}
 use Rattle.paper.specs.Fields.{zeros_then_blanks}
-use Rattle.field.proofs.Laws.{zeros-loop}
+use Rattle.field.proofs.Laws.{zeros_loop}
 use Rattle.field.proofs.zeros_then_blanks.Statement.{statement}
 use Rattle.field.proofs.zeros_then_blanks.Tie as tie
 
@@ -25,8 +25,8 @@ zeros_then_blanks_spec =
     (λ c. search rules)
     (λ c. search rules)
     (λ c κs. search rules)
-    (λ c. search (rules, zeros-loop))
+    (λ c. search (rules, zeros_loop))
     (λ c. search rules)
     (λ c. search rules)
-    (λ c. search (rules, zeros-loop))
-    (λ c. search (rules, zeros-loop)))
+    (λ c. search (rules, zeros_loop))
+    (λ c. search (rules, zeros_loop)))

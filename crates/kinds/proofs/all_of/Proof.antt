@@ -4,7 +4,7 @@ use mathlib.Core.Bool.{◌&&◌}
 use Prim.Native.Nat.{◌≤◌, ◌-◌}
 use lib.ListN.{length, drop}
 use Rattle.paper.specs.Bytes.{every}
-use Rattle.paper.proofs.Laws.{all-loop}
+use Rattle.paper.proofs.Laws.{all_loop}
 use Rattle.kinds.specs.Kinds.{is_in}
 use Rattle.kinds.proofs.all_of.Statement.{statement}
 use Rattle.kinds.proofs.all_of.Tie as tie
@@ -26,5 +26,5 @@ all_of_spec =
     (λ c κs. search rules)
     (λ c. search rules)
     (λ c. search rules)
-    (λ c. search (rules, all-loop))
-    (λ c. search (rules, all-loop)))
+    (λ c. search (rules, all_loop))
+    (λ c. search (rules, all_loop)))

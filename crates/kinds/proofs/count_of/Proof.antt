@@ -4,7 +4,7 @@ use Prim.Native.Nat.{◌≤◌, ◌+◌, ◌-◌}
 use lib.ListN.{length, drop}
 use Rattle.paper.specs.Bytes.{count}
 use Rattle.kinds.specs.Kinds.{is_in}
-use Rattle.kinds.proofs.Loops.{count-loop}
+use Rattle.kinds.proofs.Loops.{count_loop}
 use Rattle.kinds.proofs.count_of.Statement.{statement}
 use Rattle.kinds.proofs.count_of.Tie as tie
 
@@ -27,5 +27,5 @@ count_of_spec =
     (λ c. search rules)
     (λ c. search rules)
     (λ c. search rules)
-    (λ c. search (rules, count-loop))
-    (λ c. search (rules, count-loop)))
+    (λ c. search (rules, count_loop))
+    (λ c. search (rules, count_loop)))

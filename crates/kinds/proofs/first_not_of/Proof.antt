@@ -3,7 +3,7 @@ use mathlib.Core.Path.{◌≡◌}
 use Prim.Native.Nat.{◌≤◌, ◌+◌, ◌-◌}
 use lib.ListN.{length, drop}
 use Rattle.kinds.specs.Kinds.{is_in, first_not}
-use Rattle.kinds.proofs.Loops.{first-loop}
+use Rattle.kinds.proofs.Loops.{first_loop}
 use Rattle.kinds.proofs.first_not_of.Statement.{statement}
 use Rattle.kinds.proofs.first_not_of.Tie as tie
 
@@ -22,8 +22,8 @@ first_not_of_spec =
     (λ c. search rules)
     (λ c. search rules)
     (λ c κs. search rules)
-    (λ c. search (rules, first-loop))
+    (λ c. search (rules, first_loop))
     (λ c. search rules)
     (λ c. search rules)
-    (λ c. search (rules, first-loop))
-    (λ c. search (rules, first-loop)))
+    (λ c. search (rules, first_loop))
+    (λ c. search (rules, first_loop)))

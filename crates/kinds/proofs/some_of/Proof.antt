@@ -4,7 +4,7 @@ use mathlib.Core.Bool.{◌||◌}
 use Prim.Native.Nat.{◌≤◌, ◌-◌}
 use lib.ListN.{length, drop}
 use Rattle.paper.specs.Bytes.{any}
-use Rattle.paper.proofs.Laws.{some-loop}
+use Rattle.paper.proofs.Laws.{some_loop}
 use Rattle.kinds.specs.Kinds.{is_in}
 use Rattle.kinds.proofs.some_of.Statement.{statement}
 use Rattle.kinds.proofs.some_of.Tie as tie
@@ -26,5 +26,5 @@ some_of_spec =
     (λ c κs. search rules)
     (λ c. search rules)
     (λ c. search rules)
-    (λ c. search (rules, some-loop))
-    (λ c. search (rules, some-loop)))
+    (λ c. search (rules, some_loop))
+    (λ c. search (rules, some_loop)))

@@ -5,7 +5,7 @@ use Prim.Native.Nat.{◌≤◌, ◌-◌}
 use lib.Dec.{eqb}
 use lib.ListN.{length, drop}
 use Rattle.paper.specs.Bytes.{every}
-use Rattle.paper.proofs.Laws.{all-loop}
+use Rattle.paper.proofs.Laws.{all_loop}
 use Rattle.text.proofs.each_is.Statement.{statement}
 use Rattle.text.proofs.each_is.Tie as tie
 
@@ -25,5 +25,5 @@ each_is_spec =
     (λ c. search rules)
     (λ c. search rules)
     (λ c. search rules)
-    (λ c. search (rules, all-loop))
-    (λ c. search (rules, all-loop)))
+    (λ c. search (rules, all_loop))
+    (λ c. search (rules, all_loop)))
