@@ -306,8 +306,8 @@ fn code_of(a: Answer) -> u64
     }
 }
 
-// The same for programs in other languages: the number times 2 to the 32nd, plus the length.
-pub extern "C" fn bluffcradle_acknowledge(
+// The same as one number, for programs in other languages: the number times 2 to the 32nd, plus the length.
+pub fn bluffcradle_acknowledge(
     t: &[u8],
     pack: &[u8],
     date: &[u8],
@@ -321,7 +321,7 @@ pub extern "C" fn bluffcradle_acknowledge(
 }
 
 // The need, in the same way.
-pub extern "C" fn bluffcradle_need(t: &[u8], pack: &[u8], date: &[u8], name: &[u8]) -> u64
+pub fn bluffcradle_need(t: &[u8], pack: &[u8], date: &[u8], name: &[u8]) -> u64
     ensures { result ≡ coded (need t.now pack.now date.now name.now) }
 {
     code_of(need(t, pack, date, name))

@@ -8,10 +8,10 @@ use borrow.Author.Rules.{rules}
 use Rattle.ack.proofs.file_size.Statement.{statement}
 use Rattle.ack.proofs.file_size.Tie as tie
 
-abbrev invariant-loop : tie.invariant-loop
+abbrev invariant-loop : tie.invariant-loop-i
 invariant-loop t n taxpayers banks filed states date row₀ list₀ past₀ at₀ size₀ i₀ row list past at size i = Needing (searched taxpayers banks filed states) date t n row past at size i
 
-abbrev decreases-loop : tie.decreases-loop
+abbrev decreases-loop : tie.decreases-loop-i
 decreases-loop t n taxpayers banks filed states date row₀ list₀ past₀ at₀ size₀ i₀ row list past at size i = n - i
 
 abbrev lines : tie.Start invariant-loop decreases-loop → Lines
@@ -32,7 +32,7 @@ file_size_spec =
     invariant-loop
     decreases-loop
     (λ c κs. search rules)
-    (λ c. let s = c.before.before.before.before.before.before.before in need_start (lines s) s.args.date.now s.args.t.now s.args.n _ c.no-past.result s.requires refl c.no-past.ensures)
+    (λ c. let s = c.before.before.before.before.before.before.before in need_start (lines s) s.args.date.now s.args.t.now s.args.n _ c.no_past-past.result s.requires refl c.no_past-past.ensures)
     (λ c. search rules)
     (λ c κs. search rules)
     (λ c. let f = fits c.before.before.before in search rules)

@@ -9,11 +9,11 @@ use borrow.Author.Rules.{rules}
 use Rattle.ack.proofs.write_sets.Statement.{statement}
 use Rattle.ack.proofs.write_sets.Tie as tie
 
-abbrev invariant-loop : tie.invariant-loop
+abbrev invariant-loop : tie.invariant-loop-i
 invariant-loop t n taxpayers banks filed states date out₀ row₀ list₀ past₀ at₀ to₀ accepted₀ i₀ out row list past at to accepted i =
     Writing (searched taxpayers banks filed states) date t n out₀ row past at to accepted i out × (length list ≡ 96)
 
-abbrev decreases-loop : tie.decreases-loop
+abbrev decreases-loop : tie.decreases-loop-i
 decreases-loop t n taxpayers banks filed states date out₀ row₀ list₀ past₀ at₀ to₀ accepted₀ i₀ out row list past at to accepted i = n - i
 
 abbrev lines : tie.Start invariant-loop decreases-loop → Lines
@@ -36,7 +36,7 @@ write_sets_spec =
     invariant-loop
     decreases-loop
     (λ c κs. search rules)
-    (λ c. let s = c.before.before.before.before.before.before.before.before in (write_start (lines s) s.args.date.now s.args.t.now s.args.n s.args.out.now _ c.no-past.result s.requires.0 refl c.no-past.ensures, refl))
+    (λ c. let s = c.before.before.before.before.before.before.before.before in (write_start (lines s) s.args.date.now s.args.t.now s.args.n s.args.out.now _ c.no_past-past.result s.requires.0 refl c.no_past-past.ensures, refl))
     (λ c. search rules)
     (λ c κs. search rules)
     (λ c. let f = fits c.before.before.before in search rules)
