@@ -1,11 +1,9 @@
 -- Which file: by the route that a transmission takes, and by the rows of the pack. Assumes nothing.
 use mathlib.Core.Path.{◌≡◌, refl, sym, ap, ◌∙◌, subst}
 use mathlib.Core.List.{List, [], ◌∷◌, map}
-use mathlib.Core.Logic.{◌⊎◌, ⊎_elim}
 use mathlib.Core.Option.{Option, none, some}
 use Prim.Native.Nat.{ℕ, ◌+◌, ◌*◌}
 use native.Mathlib.Omega.{arith}
-use denote.Enum.Declared.{tag_of}
 use lib.ListN.{length}
 use Rattle.paper.specs.declared.Answer.{Answer}
 use Rattle.paper.specs.declared.Answer.TheVariants.{File, Refused}
@@ -21,7 +19,6 @@ use Rattle.paper.specs.Judge.{Turn, turns, asked, start}
 use Rattle.paper.specs.File.{code_list, rejection, judged, turns_of, file_from, file_of}
 use Rattle.paper.specs.Answer.{prescribed, room_for, refusal_of, refused_or, answer, refusal_number, coded, left_by}
 use Rattle.paper.specs.Room.{need}
-use Rattle.paper.specs.contracts.Codes.{the_type}
 use Rattle.paper.proofs.RecordSizes.{length-rejection}
 use Rattle.pack.specs.declared.Places.{Places}
 use Rattle.pack.specs.Shape.{lines_at}
@@ -77,9 +74,9 @@ module _ (t pack date : Bytes) (n : ℕ) (places : Places) (r : Ready t pack dat
 
 -- THE 12 DIGITS OF A WHOLE REJECTION
 
-pub other_codes : (c : Codes) (t digits s : Bytes) → (tag_of the_type c ≡ 1) ⊎ (tag_of the_type c ≡ 2) ⊎ (tag_of the_type c ≡ 3) → digits ≡ through LTrana 60 80 t → s ≡ laid (zeros 16) 0 digits → s ≡ sequence_for c t
+pub other_codes : (c : Codes) (t digits s : Bytes) → (c ≡ C0823 → ⊥) → digits ≡ through LTrana 60 80 t → s ≡ laid (zeros 16) 0 digits → s ≡ sequence_for c t
 unfolding twelve
-other_codes C0823 t digits s h e es = absurd (⊎_elim (λ h. omega arith) (⊎_elim (λ h. omega arith) (λ h. omega arith)) h)
+other_codes C0823 t digits s h e es = absurd (h refl)
 other_codes C0822 t digits s h e es = es ∙ ap (laid (zeros 16) 0) e
 other_codes C0840 t digits s h e es = es ∙ ap (laid (zeros 16) 0) e
 other_codes C0822And0840 t digits s h e es = es ∙ ap (laid (zeros 16) 0) e
