@@ -15,4 +15,4 @@ put_refusal_spec =
     (λ c.
     let l = c.before.before in
     let r = l.before.before.before in
-    (refl, l.lay.ensures ∙ ap (laid r.before.before.args.out.now 0) r.refusal-line.ensures)))
+    (refl, l.lay.ensures ∙ ap (laid r.before.before.args.out.now 0) r.refusal_line-line.ensures)))
