@@ -1,11 +1,11 @@
 -- A record written at a place of an output. Assumes nothing.
 use mathlib.Core.Path.{◌≡◌, refl, sym, ap, ◌∙◌}
-use mathlib.Core.Bool.{Bool, true, false, ◌&&◌}
+use mathlib.Core.Bool.{Bool, true, false, not, ◌&&◌}
 use mathlib.Core.List.{[], ◌∷◌, ◌++◌, append-nil, append_assoc}
 use Prim.{tt}
 use Prim.Native.Nat.{ℕ, suc, ◌+◌, ◌-◌, ◌/◌, ◌%◌, ◌<◌, ◌≤◌}
 use native.Mathlib.Omega.{arith}
-use borrow.Author.Tests.{le-leb, lt-ltb, leb-true}
+use borrow.Author.Tests.{le-leb, lt-ltb, leb-true, not-true, not-false}
 use lib.Dec.{leb, lit≤}
 use lib.ListN.{length, take, drop, get_or, set, length-take, length-drop, take-append-drop}
 use lib.Seq.{sets, sets-eq, length-sets, set-set, set_comm, length-take-le, take_all, take-add, drop-drop}
@@ -26,15 +26,15 @@ fits_told n room at f e h = leb-true (at + n) room (sym e ∙ h)
 
 module _ (out r : Bytes) (at : ℕ) (f : Bool) (e : f ≡ leb (at + 120) (length out)) where
   -- no room
-  pub not_placed : f ≡ false → out ≡ placed out at r
+  pub not_placed : not f ≡ true → out ≡ placed out at r
   unfolding placed
-  not_placed h = rw (sym e ∙ h)
+  not_placed h = rw (sym e ∙ not-true f h)
 
   -- the 120 bytes from the place on made the record
-  pub lent_placed : f ≡ true → (new : Bytes) → length r ≡ 120 → new ≡ r → take at out ++ (new ++ drop (at + 120 - at) (drop at out)) ≡ placed out at r
+  pub lent_placed : not f ≡ false → (new : Bytes) → length r ≡ 120 → new ≡ r → take at out ++ (new ++ drop (at + 120 - at) (drop at out)) ≡ placed out at r
   unfolding placed laid
   lent_placed h new l n =
-      let g : at + 120 ≤ length out = fits_told 120 (length out) at f e h in
+      let g : at + 120 ≤ length out = fits_told 120 (length out) at f e (not-false f h) in
       let w : at + length r ≤ length out = omega arith in
       let k : at + (at + 120 - at) ≡ at + length r = omega arith in
       let p : placed out at r ≡ laid out at r = rw (le-leb _ _ g) in

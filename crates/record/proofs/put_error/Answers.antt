@@ -1,4 +1,5 @@
 use borrow.Author.Rules.{rules}
+use Rattle.paper.proofs.Flow.{not_no}
 use Rattle.record.proofs.Laws.{not_placed, lent_placed, length_error}
 use Rattle.record.proofs.put_error.Goals as goal
 
@@ -6,4 +7,4 @@ pub returns-then-not-fits : goal.returns-then-not-fits
 returns-then-not-fits c = search not_placed
 
 pub returns : goal.returns
-returns c = search (rules, lent_placed, length_error)
+returns c = search (rules, lent_placed, not_no, length_error)
