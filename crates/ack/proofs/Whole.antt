@@ -47,8 +47,8 @@ module _ (L : Lines) (date name t : Bytes) (n : ℕ) (b : Begins t n) where
   pub sets_small : length (sets_in ts) ≤ 2031616
   sets_small = omega (arith, sets_few L date t, b.short)
 
-  pub room_for : (room : ℕ) → 360 + 240 * n + 11400 * min n ((length t - 43 * n) / 341) ≤ room → true ≡ leb (360 + length (sets_in ts)) room
-  room_for room h =
+  pub room_for_lem : (room : ℕ) → 360 + 240 * n + 11400 * min n ((length t - 43 * n) / 341) ≤ room → true ≡ leb (360 + length (sets_in ts)) room
+  room_for_lem room h =
       let few : 360 + length (sets_in ts) ≤ room = omega (arith, sets_within) in
       sym (le-leb (360 + length (sets_in ts)) room few)
 

@@ -162,8 +162,8 @@ module _ (x : Identity) (l : Letter) (p : Past) (row : List ℕ) (dsn dcn : ℕ)
       by true false q z = absurd (never z)
       by false c q z = refl
 
-  room_for : (not a || leb (length row) p.n) ≡ false → (is_a l && ltb p.n (length row)) ≡ true
-  room_for h = ap (λ (b : Bool). b && ltb p.n (length row)) (sym ea) ∙ by a (leb (length row) p.n) refl h
+  room_for_lem : (not a || leb (length row) p.n) ≡ false → (is_a l && ltb p.n (length row)) ≡ true
+  room_for_lem h = ap (λ (b : Bool). b && ltb p.n (length row)) (sym ea) ∙ by a (leb (length row) p.n) refl h
     where
       by : (b c : Bool) → leb (length row) p.n ≡ c → (not b || c) ≡ false → (b && ltb p.n (length row)) ≡ true
       by true true q z = absurd (never (sym z))
@@ -175,14 +175,14 @@ module _ (x : Identity) (l : Letter) (p : Past) (row : List ℕ) (dsn dcn : ℕ)
   pass_no h = (numbers_are p.n (sym (ap (λ (b : Bool). cond b (p.n + 1) p.n) (full h))), sym (ap (λ (b : Bool). cond b (set row p.n ((x.ssn - 1) % 4294967296)) row) (full h)))
 
   pub pass_room : (not a || leb (length row) p.n) ≡ false → p.n < length row
-  pass_room h = ltb-true p.n (length row) (both (is_a l) (ltb p.n (length row)) (room_for h)).1
+  pass_room h = ltb-true p.n (length row) (both (is_a l) (ltb p.n (length row)) (room_for_lem h)).1
 
   pub pass_yes : (not a || leb (length row) p.n) ≡ false → (n : ℕ) → n ≡ x.ssn - 1
       → (record { dsn = dsn; dcn = dcn; n = p.n + 1 } ≡ next_past x l p row) × (set row p.n (n % 4294967296) ≡ next_row x l p row)
   unfolding next_row
   pass_yes h n en = (
-    numbers_are (p.n + 1) (sym (ap (λ (b : Bool). cond b (p.n + 1) p.n) (room_for h))),
-    ap (λ (y : ℕ). set row p.n (y % 4294967296)) en ∙ sym (ap (λ (b : Bool). cond b (set row p.n ((x.ssn - 1) % 4294967296)) row) (room_for h)),
+    numbers_are (p.n + 1) (sym (ap (λ (b : Bool). cond b (p.n + 1) p.n) (room_for_lem h))),
+    ap (λ (y : ℕ). set row p.n (y % 4294967296)) en ∙ sym (ap (λ (b : Bool). cond b (set row p.n ((x.ssn - 1) % 4294967296)) row) (room_for_lem h)),
   )
 
 -- digits, or what is known of an earlier number

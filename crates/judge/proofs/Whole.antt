@@ -341,9 +341,9 @@ module _ (t date : Bytes) (at : ℕ) (p : Past) (row : List ℕ) (L : Lines) (e 
   rows_some u =
       ap (λ (h : Held). eqb h.rows 0) e-found ∙ ap (λ (b : Bool). eqb (min 96 (length {A = Broke} (cond (eqb (bit b) 0) [] (record { place = at; kind = kind; set = bit b } ∷ [])))) 0) (ap (is Unknown) e-kind ∙ u)
 
-  no_field : field L4868 90 [] ≡ []
+  no_field_lem : field L4868 90 [] ≡ []
   unfolding field entry form4868
-  no_field = refl
+  no_field_lem = refl
 
   other_letter : letter ≡ letter_of N
   unfolding letter_of twice seen_by
@@ -355,7 +355,7 @@ module _ (t date : Bytes) (at : ℕ) (p : Past) (row : List ℕ) (L : Lines) (e 
           some : (c : Bool) → c ≡ false → letter_by c false ≡ letter_by c (false || member (ssn_of (doc_here (drop at t))) (numbers_in (take p.n row)))
           some true z = absurd (never (sym z))
           some false z = refl
-      by false u = ap (letter_by (empty (findings N))) (sym (ap (λ (m : Bytes). member (field L4868 90 m) (numbers_in (take p.n row))) (no_bytes t at k u) ∙ ap (λ (m : Bytes). member m (numbers_in (take p.n row))) no_field ∙ member_none (take p.n row)))
+      by false u = ap (letter_by (empty (findings N))) (sym (ap (λ (m : Bytes). member (field L4868 90 m) (numbers_in (take p.n row))) (no_bytes t at k u) ∙ ap (λ (m : Bytes). member m (numbers_in (take p.n row))) no_field_lem ∙ member_none (take p.n row)))
 
   -- without an authentication no birth date is compared
   no_births : 48 ≡ births_of N
