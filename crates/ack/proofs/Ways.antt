@@ -72,6 +72,12 @@ module _ (t pack date : Bytes) (n : ℕ) (places : Places) (r : Ready t pack dat
     unfolding prescribed file_of judged_file
     row_file name = ap (λ (ts : List Turn). file_from name (judged (parsed_of (records t)) ts)) row_turns ∙ sym (judged_file_lem name)
 
+    pub row_size : (name : Bytes) → length (prescribed t pack date name) ≡ 360 + length (sets_in (turns_in (searched one two three four) date t))
+    row_size name = judged_size name ∙ ap (λ (ts : List Turn). 360 + length (sets_in ts)) (sym row_turns)
+
+    pub row_length : (name : Bytes) → length (judged_file (searched one two three four) date name t) ≡ 360 + length (sets_in (turns_in (searched one two three four) date t))
+    row_length name = ap length (row_file name) ∙ row_size name
+
 -- THE 12 DIGITS OF A WHOLE REJECTION
 
 pub other_codes : (c : Codes) (t digits s : Bytes) → (c ≡ C0823 → ⊥) → digits ≡ through LTrana 60 80 t → s ≡ laid (zeros 16) 0 digits → s ≡ sequence_for c t
