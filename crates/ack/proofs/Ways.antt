@@ -1,7 +1,7 @@
 -- Which file: by the route that a transmission takes, and by the rows of the pack. Assumes nothing.
 use mathlib.Core.Path.{◌≡◌, refl, sym, ap, ◌∙◌, subst}
 use mathlib.Core.List.{List, [], ◌∷◌, map}
-use mathlib.Core.Option.{Option, none, some}
+use Rattle.std.proofs.Common.{Option, None, Some}
 use Prim.Native.Nat.{ℕ, ◌+◌, ◌*◌}
 use native.Mathlib.Omega.{arith}
 use lib.ListN.{length}
@@ -94,7 +94,7 @@ module _ (t pack date name : Bytes) (w : Route) (e : w ≡ route_of t pack date 
   file = prescribed t pack date name
 
   module _ (r : Refusal) (q : w ≡ Refuse r) where
-    is_refused : refusal_of t pack date name ≡ some r
+    is_refused : refusal_of t pack date name ≡ Some r
     is_refused = refused t pack date name r (sym e ∙ q)
 
     pub refuses : (n : ℕ) → Refused r ≡ answer t pack date name n
@@ -105,7 +105,7 @@ module _ (t pack date name : Bytes) (w : Route) (e : w ≡ route_of t pack date 
     unfolding need
     refuses_need = ap (λ (x : Option Refusal). refused_or x (File (length file))) (sym is_refused)
 
-  module _ (free : refusal_of t pack date name ≡ none) where
+  module _ (free : refusal_of t pack date name ≡ None) where
     answers : (out out' : Bytes) (a : Answer) → Given file out out' a → (a ≡ answer t pack date name (length out)) × (out' ≡ left_by a file out)
     unfolding answer
     answers out out' a g = (g.says ∙ ap (λ (x : Option Refusal). refused_or x (room_for (length out) file)) (sym free), g.leaves)

@@ -3,14 +3,13 @@ use mathlib.Core.Path.{◌≡◌, refl, sym, ap, ◌∙◌}
 use mathlib.Core.Bool.{Bool, true, false, not, cond, ◌&&◌}
 use mathlib.Core.List.{List, [], ◌∷◌, ◌++◌, map}
 use mathlib.Core.Logic.{◌≢◌}
-use mathlib.Core.Option.{Option, none, some}
+use Rattle.std.proofs.Common.{Option, None, Some}
 use Prim.Native.Nat.{ℕ, suc, ◌+◌, ◌*◌, ◌≤◌, ◌<◌}
 use native.Mathlib.Omega.{arith}
 use borrow.Author.Tests.{le-ltb, lt-ltb, ltb-false}
 use lib.Dec.{ltb}
 use lib.ListN.{length, take, drop, length-append, length-take, length-drop, length-map}
-use Rattle.paper.specs.declared.Answer.{Answer}
-use Rattle.paper.specs.declared.Answer.TheVariants.{File, Refused}
+use Rattle.std.proofs.Common.{Ok, Err}
 use Rattle.paper.specs.declared.Codes.{Codes}
 use Rattle.paper.specs.declared.Codes.TheVariants.{C0823, C0822, C0840, C0822And0840}
 use Rattle.paper.specs.declared.Kind.{Kind}
@@ -24,7 +23,7 @@ use Rattle.paper.specs.Walk.{Doc, count_of, starts, records, named, kind_of, is,
 use Rattle.paper.specs.Conditions.{View, view, rules_of, holds}
 use Rattle.paper.specs.Judge.{Before, Finding, Turn, known, item_of, if_known, asked, mark, finds_in, finds_from, findings, start, turn, turns, after, letter_of, births_of, sight_of}
 use Rattle.paper.specs.File.{on_auth, set_of, code_list, recap_record, Outcome, rejected, judged, outcome_by, turns_of, outcome, accepted_in, file_from, file_of}
-use Rattle.paper.specs.Answer.{file_name, prescribed, room_for, refusal_of, refused_or, answer, refusal_number, number_of, length_of, coded}
+use Rattle.paper.specs.Answer.{Answer, file_name, prescribed, room_for, refusal_of, refused_or, answer, refusal_number, number_of, length_of, coded}
 use Rattle.paper.specs.Room.{need, set_records, all_records, file_records, InRecords, enough, AtMost, NeverShort, ExactNeed, NoNeed, ToldApart, AnswersApart, NeedReads}
 use Rattle.paper.proofs.Laws.{never}
 use Rattle.paper.proofs.KindLaws.{kind_length}
@@ -197,8 +196,8 @@ at_most t pack date name = (file_measured (lines_of (blocks_of pack)) date name 
 
 -- a refusal's number, or 0
 abbrev number_in : Option Refusal → ℕ
-number_in (some r) = refusal_number r
-number_in none = 0
+number_in (Some r) = refusal_number r
+number_in None = 0
 
 module _ (t pack date name : Bytes) where
   abbrev file : Bytes
@@ -209,48 +208,48 @@ module _ (t pack date name : Bytes) where
   unfolding refusal_of
   first_three = by (ltb 65536 (length t)) (not (well_formed pack)) (not (valid_date date && file_name name))
     where
-      by : (a b c : Bool) → number_in (cond a (some LongTransmission) (cond b (some BadPack) (cond c (some BadDateOrName) none))) ≤ 3
+      by : (a b c : Bool) → number_in (cond a (Some LongTransmission) (cond b (Some BadPack) (cond c (Some BadDateOrName) None))) ≤ 3
       by true b c = omega arith
       by false true c = omega arith
       by false false true = omega arith
       by false false false = omega arith
 
-  pub not_refused : refusal_of t pack date name ≡ none → (length t ≤ 65536) × (well_formed pack ≡ true)
+  pub not_refused : refusal_of t pack date name ≡ None → (length t ≤ 65536) × (well_formed pack ≡ true)
   unfolding refusal_of
   not_refused e = by (ltb 65536 (length t)) refl (well_formed pack) e
     where
       by : (a : Bool) → ltb 65536 (length t) ≡ a → (b : Bool)
-          → cond a (some LongTransmission) (cond (not b) (some BadPack) (cond (not (valid_date date && file_name name)) (some BadDateOrName) none)) ≡ none
+          → cond a (Some LongTransmission) (cond (not b) (Some BadPack) (cond (not (valid_date date && file_name name)) (Some BadDateOrName) None)) ≡ None
           → (length t ≤ 65536) × (b ≡ true)
       by true h b q = let z : ◌≡◌ {A = ℕ} 1 0 = ap number_in q in absurd (omega arith)
       by false h true q = (ltb-false 65536 (length t) h, refl)
       by false h false q = let z : ◌≡◌ {A = ℕ} 2 0 = ap number_in q in absurd (omega arith)
 
   -- each by a refusal or none
-  exact : (r : Option Refusal) (k n : ℕ) → refused_or r (File (length file)) ≡ File k
-      → (k ≤ n → refused_or r (room_for n file) ≡ File k) × (n < k → refused_or r (room_for n file) ≡ Refused ShortOutput)
-  exact (some r) k n e = let z : ◌≡◌ {A = ℕ} 0 1 = cc in absurd (omega arith)
-  exact none k n e =
+  exact : (r : Option Refusal) (k n : ℕ) → refused_or r (Ok (length file)) ≡ Ok k
+      → (k ≤ n → refused_or r (room_for n file) ≡ Ok k) × (n < k → refused_or r (room_for n file) ≡ Err ShortOutput)
+  exact (Some r) k n e = let z : ◌≡◌ {A = ℕ} 0 1 = cc in absurd (omega arith)
+  exact None k n e =
       let q : length file ≡ k = ap length_of e in
       (λ h. let s : length file ≤ n = omega arith in rw (le-ltb _ _ s) e, λ h. let s : n < length file = omega arith in rw (lt-ltb _ _ s))
 
-  alike : (q : Option Refusal) (r : Refusal) (n : ℕ) → refused_or q (File (length file)) ≡ Refused r → number_in q ≤ 3
-      → (refused_or q (room_for n file) ≡ Refused r) × (r ≢ ShortOutput)
-  alike (some q) r n e l = (e, λ h. let z : refusal_number q ≡ 4 = ap number_of e ∙ ap refusal_number h in omega arith)
-  alike none r n e l = let z : ◌≡◌ {A = ℕ} 0 1 = cc in absurd (omega arith)
+  alike : (q : Option Refusal) (r : Refusal) (n : ℕ) → refused_or q (Ok (length file)) ≡ Err r → number_in q ≤ 3
+      → (refused_or q (room_for n file) ≡ Err r) × (r ≢ ShortOutput)
+  alike (Some q) r n e l = (e, λ h. let z : refusal_number q ≡ 4 = ap number_of e ∙ ap refusal_number h in omega arith)
+  alike None r n e l = let z : ◌≡◌ {A = ℕ} 0 1 = cc in absurd (omega arith)
 
   roomy : (q : Option Refusal) (n : ℕ) → length file ≤ n → number_in q ≤ 3 → number_of (refused_or q (room_for n file)) ≤ 3
-  roomy (some q) n h l = l
-  roomy none n h l = rw (le-ltb _ _ h) (omega arith)
+  roomy (Some q) n h l = l
+  roomy None n h l = rw (le-ltb _ _ h) (omega arith)
 
   small : (q : Option Refusal) (a : Answer) → refusal_of t pack date name ≡ q → length_of a ≤ length file → length_of (refused_or q a) < 4294967296
-  small (some q) a e h = omega arith
-  small none a e h = omega (arith, (not_refused e).0, at_most t pack date name)
+  small (Some q) a e h = omega arith
+  small None a e h = omega (arith, (not_refused e).0, at_most t pack date name)
 
   at_longest : (n : ℕ) → length_of (room_for n file) ≤ length file
   at_longest n = by (ltb n (length file))
     where
-      by : (b : Bool) → length_of (cond b (Refused ShortOutput) (File (length file))) ≤ length file
+      by : (b : Bool) → length_of (cond b (Err ShortOutput) (Ok (length file))) ≤ length file
       by true = omega arith
       by false = omega arith
 
@@ -277,12 +276,12 @@ pub answers_apart : AnswersApart
 unfolding need answer
 answers_apart t pack date name n =
     let q = refusal_of t pack date name in
-    (apart _ (small t pack date name q _ refl (at_longest t pack date name n)), apart _ (small t pack date name q (File _) refl (omega arith)))
+    (apart _ (small t pack date name q _ refl (at_longest t pack date name n)), apart _ (small t pack date name q (Ok _) refl (omega arith)))
 
 pub need_reads : NeedReads
 unfolding need
 need_reads t pack date name k e = number_plain 7 k (omega (arith, small_need (refusal_of t pack date name) refl e))
   where
-    small_need : (q : Option Refusal) → refusal_of t pack date name ≡ q → refused_or q (File (length (prescribed t pack date name))) ≡ File k → k < 10000000
-    small_need (some q) l e = let z : ◌≡◌ {A = ℕ} 0 1 = cc in absurd (omega arith)
-    small_need none l e = let q : length (prescribed t pack date name) ≡ k = ap length_of e in omega (arith, (not_refused t pack date name l).0, at_most t pack date name)
+    small_need : (q : Option Refusal) → refusal_of t pack date name ≡ q → refused_or q (Ok (length (prescribed t pack date name))) ≡ Ok k → k < 10000000
+    small_need (Some q) l e = let z : ◌≡◌ {A = ℕ} 0 1 = cc in absurd (omega arith)
+    small_need None l e = let q : length (prescribed t pack date name) ≡ k = ap length_of e in omega (arith, (not_refused t pack date name l).0, at_most t pack date name)

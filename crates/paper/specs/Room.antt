@@ -1,28 +1,26 @@
 -- How much room a file needs: exactly, and at most. What is promised, and the words that it is said in; the proofs stand in proofs/.
 -- Assumes nothing.
-use Rattle.std.specs.Prelude.{ℕ, ◌+◌, ◌*◌, ◌/◌, ◌%◌, ◌≤◌, ◌<◌, min, List, [], ◌∷◌, ◌++◌, ◌≢◌, ◌≡◌, length}
-use Rattle.paper.specs.declared.Answer.{Answer}
-use Rattle.paper.specs.declared.Answer.TheVariants.{File, Refused}
+use Rattle.std.specs.Prelude.{ℕ, ◌+◌, ◌*◌, ◌/◌, ◌%◌, ◌≤◌, ◌<◌, min, List, [], ◌∷◌, ◌++◌, ◌≢◌, ◌≡◌, length, Ok, Err}
 use Rattle.paper.specs.declared.Ask.{Ask}
 use Rattle.paper.specs.declared.Refusal.{Refusal}
 use Rattle.paper.specs.declared.Refusal.TheVariants.{ShortOutput}
 use Rattle.paper.specs.Bytes.{Bytes, number, plain}
 use Rattle.paper.specs.Judge.{Turn, findings}
 use Rattle.paper.specs.File.{Outcome, rejected, judged, code_list}
-use Rattle.paper.specs.Answer.{prescribed, refusal_of, refused_or, answer, refusal_line, shown, number_of, length_of, coded}
+use Rattle.paper.specs.Answer.{Answer, prescribed, refusal_of, refused_or, answer, refusal_line, shown, number_of, length_of, coded}
 use Rattle.paper.specs.Hidden.{outcome_with}
 
 -- the exact need: refusal 1, 2 or 3, or the length of the file
 unfoldable pub need : Bytes → Bytes → Bytes → Bytes → Answer
-need t pack date name = refused_or (refusal_of t pack date name) (File (length (prescribed t pack date name)))
+need t pack date name = refused_or (refusal_of t pack date name) (Ok (length (prescribed t pack date name)))
 
 -- what the program for it writes: the number and a line end, or the refusal's line
 abbrev pub need_digits : ℕ → Bytes
 need_digits n = plain 7 n
 
 abbrev pub need_shown : Answer → Bytes
-need_shown (File n) = need_digits n ++ 10 ∷ []
-need_shown (Refused r) = refusal_line r
+need_shown (Ok n) = need_digits n ++ 10 ∷ []
+need_shown (Err r) = refusal_line r
 
 -- what a program writes for what it asks, n being the length of the output that it lends
 abbrev pub told : Ask → Bytes → Bytes → Bytes → Bytes → ℕ → Bytes
@@ -60,21 +58,21 @@ AtMost = (t pack date name : Bytes) → length (prescribed t pack date name) ≤
 
 -- so, lent the bound, refusal 4 never comes
 abbrev pub NeverShort : Type 0
-NeverShort = (t pack date name : Bytes) (n : ℕ) → enough (length t) ≤ n → answer t pack date name n ≢ Refused ShortOutput
+NeverShort = (t pack date name : Bytes) (n : ℕ) → enough (length t) ≤ n → answer t pack date name n ≢ Err ShortOutput
 
 -- an output that has the need, k bytes, or more, takes the file; one that has a byte less, or fewer, is refused with 4
 abbrev pub ExactNeed : Type 0
-ExactNeed = (t pack date name : Bytes) (k n : ℕ) → need t pack date name ≡ File k
-    → (k ≤ n → answer t pack date name n ≡ File k) × (n < k → answer t pack date name n ≡ Refused ShortOutput)
+ExactNeed = (t pack date name : Bytes) (k n : ℕ) → need t pack date name ≡ Ok k
+    → (k ≤ n → answer t pack date name n ≡ Ok k) × (n < k → answer t pack date name n ≡ Err ShortOutput)
 
 -- what has no need is refused whatever is lent, and 4 is never the cause
 abbrev pub NoNeed : Type 0
-NoNeed = (t pack date name : Bytes) (r : Refusal) (n : ℕ) → need t pack date name ≡ Refused r
-    → (answer t pack date name n ≡ Refused r) × (r ≢ ShortOutput)
+NoNeed = (t pack date name : Bytes) (r : Refusal) (n : ℕ) → need t pack date name ≡ Err r
+    → (answer t pack date name n ≡ Err r) × (r ≢ ShortOutput)
 
 -- the number that is written reads as the need: seven digits are enough
 abbrev pub NeedReads : Type 0
-NeedReads = (t pack date name : Bytes) (k : ℕ) → need t pack date name ≡ File k → number (need_digits k) ≡ k
+NeedReads = (t pack date name : Bytes) (k : ℕ) → need t pack date name ≡ Ok k → number (need_digits k) ≡ k
 
 -- a number for other languages tells the refusal and the length apart
 abbrev pub ToldApart : Answer → Type 0

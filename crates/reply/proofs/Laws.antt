@@ -2,7 +2,7 @@
 use Prim.Native.Nat.{ℕ, zero, suc, ◌+◌, ◌-◌, ◌/◌, ◌%◌, ◌≤◌, ◌<◌}
 use mathlib.Core.Bool.{Bool, true, false, cond}
 use mathlib.Core.List.{[], ◌∷◌, ◌++◌}
-use mathlib.Core.Option.{Option, none, some}
+use Rattle.std.proofs.Common.{Option, None, Some}
 use mathlib.Core.Path.{◌≡◌, refl, sym, ap, ◌∙◌}
 use native.Mathlib.Omega.{arith}
 use borrow.Author.Tests.{ltb-true, lt-ltb, le-ltb}
@@ -32,9 +32,9 @@ module _ (t pack date name : Bytes) (room : ℕ) where
   same_length n e = by (refusal_of t pack date name) (ltb room (length file)) e
     where
       by : (r : Option Refusal) (short : Bool) → refused_or r (cond short (Refused ShortOutput) (File (length file))) ≡ File n → n ≡ length file
-      by (some r) short e = cc
-      by none true e = cc
-      by none false e = cc
+      by (Some r) short e = cc
+      by None true e = cc
+      by None false e = cc
 
   pub shows_file : (a : Answer) (n : ℕ) (out out' : Bytes) → a ≡ answer t pack date name room → a ≡ File n → out' ≡ left_by a file out
       → (n ≡ length (shown (answer t pack date name room) file)) × (out' ≡ laid out 0 (shown (answer t pack date name room) file))

@@ -2,7 +2,7 @@
 use mathlib.Core.Path.{◌≡◌, refl, sym, ap, ◌∙◌}
 use mathlib.Core.Bool.{Bool, true, false, not, ◌&&◌}
 use mathlib.Core.List.{List, [], ◌++◌}
-use mathlib.Core.Option.{Option, none, some}
+use Rattle.std.proofs.Common.{Option, None, Some}
 use Prim.Native.Nat.{ℕ, ◌+◌, ◌-◌, ◌≤◌, ◌<◌}
 use native.Mathlib.Omega.{arith}
 use borrow.Author.Tests.{lt-ltb, le-ltb}
@@ -96,12 +96,12 @@ module _ (t pack date name : Bytes) where
       unfolding route_of refusal_of
       bad_date q = rw (le-ltb 65536 (length t) h, well, ← ea, ← eb, q)
 
-      pub free : (a && b) ≡ true → refusal_of t pack date name ≡ none
+      pub free : (a && b) ≡ true → refusal_of t pack date name ≡ None
       unfolding refusal_of
       free q = rw (le-ltb 65536 (length t) h, well, ← ea, ← eb, q)
 
   -- where nothing is refused
-  module _ (none-refused : refusal_of t pack date name ≡ none) (o : Outer) (eo : o ≡ shape_of t) where
+  module _ (none-refused : refusal_of t pack date name ≡ None) (o : Outer) (eo : o ≡ shape_of t) where
     on : (w : Route) → w ≡ way_of (places_of pack) (outcome_with pack date t) → w ≡ route_of t pack date name
     unfolding route_of
     on w e = e ∙ ap (λ (q : Option Refusal). refuse_or q (way_of (places_of pack) (outcome_with pack date t))) (sym none-refused)
@@ -130,50 +130,50 @@ module _ (t pack date name : Bytes) where
 
   -- WHAT IT SAYS OF THE PAPER
 
-  pub refused : (r : Refusal) → route_of t pack date name ≡ Refuse r → refusal_of t pack date name ≡ some r
+  pub refused : (r : Refusal) → route_of t pack date name ≡ Refuse r → refusal_of t pack date name ≡ Some r
   unfolding route_of
   refused r e = by (refusal_of t pack date name) (outcome_with pack date t) e
     where
-      by : (q : Option Refusal) (o : Outcome) → refuse_or q (way_of (places_of pack) o) ≡ Refuse r → q ≡ some r
-      by (some q) o e = let z : q ≡ r = cc in ap some z
-      by none (rejected sequence codes) e = let z : ◌≡◌ {A = ℕ} 0 1 = cc in absurd (omega arith)
-      by none (judged p ts) e = let z : ◌≡◌ {A = ℕ} 0 1 = cc in absurd (omega arith)
+      by : (q : Option Refusal) (o : Outcome) → refuse_or q (way_of (places_of pack) o) ≡ Refuse r → q ≡ Some r
+      by (Some q) o e = let z : q ≡ r = cc in ap Some z
+      by None (rejected sequence codes) e = let z : ◌≡◌ {A = ℕ} 0 1 = cc in absurd (omega arith)
+      by None (judged p ts) e = let z : ◌≡◌ {A = ℕ} 0 1 = cc in absurd (omega arith)
 
   -- rejected whole with these codes
   abbrev Rejects : Codes → Outcome → Type 0
-  Rejects codes o = (q : Option Refusal) → refuse_or q (way_of (places_of pack) o) ≡ Reject codes → (q ≡ none) × (o ≡ rejected (sequence_for codes t) codes)
+  Rejects codes o = (q : Option Refusal) → refuse_or q (way_of (places_of pack) o) ≡ Reject codes → (q ≡ None) × (o ≡ rejected (sequence_for codes t) codes)
 
-  pub whole : (codes : Codes) → route_of t pack date name ≡ Reject codes → (refusal_of t pack date name ≡ none) × (outcome_with pack date t ≡ rejected (sequence_for codes t) codes)
+  pub whole : (codes : Codes) → route_of t pack date name ≡ Reject codes → (refusal_of t pack date name ≡ None) × (outcome_with pack date t ≡ rejected (sequence_for codes t) codes)
   unfolding route_of
   whole codes e = outcome_cases (Rejects codes) L date t (with C0823 (zeros 16) refl) either (refusal_of t pack date name) e
     where
       with : (c : Codes) (sequence : Bytes) → sequence ≡ sequence_for c t → Rejects codes (rejected sequence c)
-      with c sequence es (some q) e = let z : ◌≡◌ {A = ℕ} 0 1 = cc in absurd (omega arith)
-      with c sequence es none e = let z : c ≡ codes = cc in (refl, (λ i. rejected (es i) c) ∙ ap (λ (x : Codes). rejected (sequence_for x t) x) z)
+      with c sequence es (Some q) e = let z : ◌≡◌ {A = ℕ} 0 1 = cc in absurd (omega arith)
+      with c sequence es None e = let z : c ≡ codes = cc in (refl, (λ i. rejected (es i) c) ∙ ap (λ (x : Codes). rejected (sequence_for x t) x) z)
 
       either : sound (records t) ≡ true → (x y : Bool) → Rejects codes (outcome_by x y p (turns_of L date p))
       either h true true q e = with C0822And0840 _ (padded_twelve t h) q e
       either h true false q e = with C0822 _ (padded_twelve t h) q e
       either h false true q e = with C0840 _ (padded_twelve t h) q e
-      either h false false (some q) e = let z : ◌≡◌ {A = ℕ} 0 1 = cc in absurd (omega arith)
-      either h false false none e = let z : ◌≡◌ {A = ℕ} 0 1 = cc in absurd (omega arith)
+      either h false false (Some q) e = let z : ◌≡◌ {A = ℕ} 0 1 = cc in absurd (omega arith)
+      either h false false None e = let z : ◌≡◌ {A = ℕ} 0 1 = cc in absurd (omega arith)
 
   -- judged
   abbrev Judges : ℕ → Places → Outcome → Type 0
   Judges n places o = outcome_with pack date t ≡ o → (q : Option Refusal) → refusal_of t pack date name ≡ q → refuse_or q (way_of (places_of pack) o) ≡ Judge n places
-      → (q ≡ none) × Ready t pack date n places
+      → (q ≡ None) × Ready t pack date n places
 
-  pub ready : (n : ℕ) (places : Places) → route_of t pack date name ≡ Judge n places → (refusal_of t pack date name ≡ none) × Ready t pack date n places
+  pub ready : (n : ℕ) (places : Places) → route_of t pack date name ≡ Judge n places → (refusal_of t pack date name ≡ None) × Ready t pack date n places
   unfolding route_of
   ready n places e = outcome_cases (Judges n places) L date t (no (zeros 16) C0823) either refl (refusal_of t pack date name) refl e
     where
       no : (sequence : Bytes) (c : Codes) → Judges n places (rejected sequence c)
-      no sequence c o (some q) l e = let z : ◌≡◌ {A = ℕ} 0 1 = cc in absurd (omega arith)
-      no sequence c o none l e = let z : ◌≡◌ {A = ℕ} 0 1 = cc in absurd (omega arith)
+      no sequence c o (Some q) l e = let z : ◌≡◌ {A = ℕ} 0 1 = cc in absurd (omega arith)
+      no sequence c o None l e = let z : ◌≡◌ {A = ℕ} 0 1 = cc in absurd (omega arith)
 
       yes : sound (records t) ≡ true → Judges n places (judged p (turns_of L date p))
-      yes h o (some q) l e = let z : ◌≡◌ {A = ℕ} 0 1 = cc in absurd (omega arith)
-      yes h o none l e =
+      yes h o (Some q) l e = let z : ◌≡◌ {A = ℕ} 0 1 = cc in absurd (omega arith)
+      yes h o None l e =
           let fine = not_refused t pack date name l in
           (refl, record { short = fine.0; well = fine.1; there = cc; good = h; count = cc; outcome = o })
 

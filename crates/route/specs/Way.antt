@@ -1,6 +1,5 @@
 -- What becomes of a transmission, by the paper's refusals and outcome. Assumes nothing.
-use Rattle.std.specs.Prelude.{ℕ, ◌-◌, ◌≤◌, Bool, true, false, not, ◌≡◌, eqb, length, take, drop}
-use Rattle.std.proofs.Math.Option.{Option, none, some}
+use Rattle.std.specs.Prelude.{ℕ, ◌-◌, ◌≤◌, Bool, true, false, not, ◌≡◌, eqb, length, take, drop, Option, None, Some}
 use Rattle.paper.specs.declared.Codes.{Codes}
 use Rattle.paper.specs.declared.Codes.TheVariants.{C0823, C0822, C0840, C0822And0840}
 use Rattle.paper.specs.declared.Refusal.{Refusal}
@@ -21,8 +20,8 @@ way_of places (rejected sequence codes) = Reject codes
 way_of places (judged p ts) = Judge (length p.docs) places
 
 abbrev pub refuse_or : Option Refusal → Route → Route
-refuse_or (some r) w = Refuse r
-refuse_or none w = w
+refuse_or (Some r) w = Refuse r
+refuse_or None w = w
 
 -- tied to the paper by `refused`, `whole` and `ready` of route/Laws
 unfoldable pub route_of : Bytes → Bytes → Bytes → Bytes → Route
