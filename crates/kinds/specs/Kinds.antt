@@ -1,6 +1,7 @@
 -- The kinds of characters, and the table of the 256 byte values. Assumes nothing.
 use Rattle.std.specs.Prelude.{ℕ, zero, suc, ◌+◌, Bool, not, cond, List, [], ◌∷◌, eqb, get_or}
 use Rattle.std.specs.Int.Bits.{bit_and}
+use Rattle.std.specs.List.{prefix_len}
 use Rattle.paper.specs.Bytes.{Bytes, within, is_digit, is_letter}
 use Rattle.paper.specs.Fields.{name_byte, street_byte, city_byte, account_byte}
 use Rattle.paper.specs.Pack.{control_byte}
@@ -44,5 +45,4 @@ is_in row set x = not (eqb (bit_and (get_or row x 0) set) 0)
 -- the place of the first that does not pass; the length for none
 -- tied to the paper by `account_no` and `account_yes` of field/Spaces
 abbrev pub first_not : (ℕ → Bool) → Bytes → ℕ
-first_not p [] = 0
-first_not p (x ∷ s) = cond (p x) (suc (first_not p s)) 0
+first_not p s = prefix_len p s

@@ -4,7 +4,8 @@
 mod entries;
 
 ghost use Rattle.std.specs.Prelude.{◌≡◌, not, ◌&&◌, ◌≤◌, length};
-ghost use Rattle.paper.specs.Bytes.{bit, every, any, count, present, digits};
+ghost use Rattle.paper.specs.Bytes.{every, any, count, present, digits, letters};
+ghost use Rattle.paper.specs.Conditions.{not_digits};
 ghost use Rattle.kinds.specs.Kinds.{table, is_in, first_not};
 
 // The kinds, each a bit of an entry: what a character may be, and which fields may hold it.
@@ -27,11 +28,13 @@ pub const PRINTABLE: u8 = 128;
 // A letter or a digit.
 pub const ALNUM: u8 = LETTER + DIGIT;
 
-// The table. Whoever reads it takes it here, once for all that is read, because taking it costs as much as reading a dozen bytes.
-pub fn table() -> [u8; 256]
-    ensures { result ≡ table }
+static TABLE: [u8; 256] = entries::KINDS;
+
+// The table.
+pub fn table() -> &'static [u8; 256]
+    ensures { result.now ≡ table }
 {
-    entries::KINDS
+    &TABLE
 }
 
 // A byte is of a kind in the set.
@@ -45,26 +48,14 @@ pub fn is_in(kinds: &[u8; 256], set: u8, x: u8) -> bool
 pub fn all_of(kinds: &[u8; 256], set: u8, s: &[u8]) -> bool
     ensures { result ≡ every (is_in kinds.now set) s.now }
 {
-    let mut all = true;
-    let mut i = 0;
-    while i < s.len() {
-        all = all & is_in(kinds, set, s[i]);
-        i += 1;
-    }
-    all
+    s.iter().all(|x| is_in(kinds, set, *x))
 }
 
 // Some byte is.
 pub fn some_of(kinds: &[u8; 256], set: u8, s: &[u8]) -> bool
     ensures { result ≡ any (is_in kinds.now set) s.now }
 {
-    let mut some = false;
-    let mut i = 0;
-    while i < s.len() {
-        some = some | is_in(kinds, set, s[i]);
-        i += 1;
-    }
-    some
+    s.iter().any(|x| is_in(kinds, set, *x))
 }
 
 // The place of the first byte that is not; the length for none.
@@ -72,49 +63,41 @@ pub fn first_not_of(kinds: &[u8; 256], set: u8, s: &[u8]) -> usize
     ensures value { result ≡ first_not (is_in kinds.now set) s.now }
     ensures upper_bound { result ≤ length s.now }
 {
-    let mut i = 0;
-    while i < s.len() {
-        if !is_in(kinds, set, s[i]) {
-            return i;
-        }
-        i += 1;
-    }
-    i
-}
-
-fn one_if(b: bool) -> usize
-    ensures { (result ≡ bit b) × (result ≤ 1) }
-{
-    if b { 1 } else { 0 }
+    s.iter().take_while(|x| is_in(kinds, set, **x)).count()
 }
 
 // How many bytes are.
 pub fn count_of(kinds: &[u8; 256], set: u8, s: &[u8]) -> usize
     ensures { result ≡ count (is_in kinds.now set) s.now }
 {
-    let mut n = 0;
-    let mut i = 0;
-    while i < s.len() {
-        n += one_if(is_in(kinds, set, s[i]));
-        i += 1;
-    }
-    n
+    s.iter().filter(|x| is_in(kinds, set, **x)).count()
 }
 
 // Present, but not every byte is.
 pub fn present_but_not(kinds: &[u8; 256], set: u8, s: &[u8]) -> bool
     ensures { result ≡ (present s.now && not (every (is_in kinds.now set) s.now)) }
 {
-    if text::blank(s) {
-        return false;
-    }
-    !all_of(kinds, set, s)
+    !text::blank(s) && !all_of(kinds, set, s)
 }
 
-// Digits, with the table taken for them alone.
+#[tactic(auto, using(crate::proofs::Ranges::digit_kind))]
 pub fn digits(s: &[u8]) -> bool
     ensures { result ≡ digits s.now }
 {
-    let kinds = table();
-    all_of(&kinds, DIGIT, s)
+    all_of(table(), DIGIT, s)
+}
+
+#[tactic(auto, using(crate::proofs::Ranges::letter_kind))]
+pub fn letters(s: &[u8]) -> bool
+    ensures { result ≡ letters s.now }
+{
+    all_of(table(), LETTER, s)
+}
+
+// Present and not digits.
+#[tactic(auto, unfolding(paper::specs::Conditions::not_digits))]
+pub fn not_digits(s: &[u8]) -> bool
+    ensures { result ≡ not_digits s.now }
+{
+    !text::blank(s) && !digits(s)
 }
