@@ -216,10 +216,10 @@ pub fn broken(
     }
     let kinds = kinds::table();
     let asked = asked_of(form, own, whole);
-    let set = of_both(&kinds, own, asked, 0);
-    let set = of_spouse(&kinds, own, spouse, asked, set);
-    let set = of_payer(&kinds, own, payer, asked, set);
-    of_head(&kinds, form, own, whole, before, set)
+    let set = of_both(kinds, own, asked, 0);
+    let set = of_spouse(kinds, own, spouse, asked, set);
+    let set = of_payer(kinds, own, payer, asked, set);
+    of_head(kinds, form, own, whole, before, set)
 }
 
 // The text of the rule at a place of the table, its field and its code: eight bytes, the first one lowest.

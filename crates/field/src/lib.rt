@@ -64,7 +64,7 @@ pub fn name(s: &[u8]) -> bool
         return false;
     }
     let kinds = kinds::table();
-    is_in(&kinds, LETTER, text::byte(s, 0)) & all_of(&kinds, NAME, s) & !loose_less(s)
+    is_in(kinds, LETTER, text::byte(s, 0)) & all_of(kinds, NAME, s) & !loose_less(s)
 }
 
 pub fn street(s: &[u8]) -> bool
@@ -74,7 +74,7 @@ pub fn street(s: &[u8]) -> bool
         return false;
     }
     let kinds = kinds::table();
-    is_in(&kinds, ALNUM, text::byte(s, 0)) & all_of(&kinds, STREET, s)
+    is_in(kinds, ALNUM, text::byte(s, 0)) & all_of(kinds, STREET, s)
 }
 
 pub fn city(s: &[u8]) -> bool
@@ -84,7 +84,7 @@ pub fn city(s: &[u8]) -> bool
         return false;
     }
     let kinds = kinds::table();
-    (3 <= count_of(&kinds, LETTER, s)) & all_of(&kinds, CITY, s)
+    (3 <= count_of(kinds, LETTER, s)) & all_of(kinds, CITY, s)
 }
 
 // The account is what stands before the first byte that can be in none; after it only blanks.
@@ -92,12 +92,12 @@ pub fn account(s: &[u8]) -> bool
     ensures { result ≡ account s.now }
 {
     let kinds = kinds::table();
-    let n = first_not_of(&kinds, ACCOUNT, s);
+    let n = first_not_of(kinds, ACCOUNT, s);
     if !text::blank(&s[n..]) {
         return false;
     }
     let t = &s[0..n];
-    some_of(&kinds, ALNUM, t) & !text::zeros(t)
+    some_of(kinds, ALNUM, t) & !text::zeros(t)
 }
 
 // The first two of a routing number, if it is digits, are 01 to 12 or 21 to 32.
@@ -119,7 +119,7 @@ pub fn zip(s: &[u8]) -> bool
     ensures { result ≡ zip s.now }
 {
     let kinds = kinds::table();
-    digits_then(&kinds, s, 5) | digits_then(&kinds, s, 9) | digits_then(&kinds, s, 12)
+    digits_then(kinds, s, 5) | digits_then(kinds, s, 9) | digits_then(kinds, s, 12)
 }
 
 pub fn zip_ends_00(s: &[u8]) -> bool

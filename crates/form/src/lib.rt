@@ -332,8 +332,8 @@ pub fn broken(
         };
     }
     let kinds = kinds::table();
-    let told = tell(&kinds, form);
-    let set = of_money(&kinds, form, 0);
+    let told = tell(kinds, form);
+    let set = of_money(kinds, form, 0);
     let set = of_payers(form, told, set);
     let set = of_address(form, told, zips, set);
     let set = of_names(form, told, payer, spouse, set);

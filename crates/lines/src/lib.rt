@@ -111,7 +111,7 @@ fn good_rows(kind: u8, b: &[u8], w: usize, n: usize) -> bool
     let mut at = 0;
     while 0 < left {
         let end = at + w;
-        let next = rank_of(&kinds, kind, &b[at..end]);
+        let next = rank_of(kinds, kind, &b[at..end]);
         if !is_lower(last, next) {
             return false;
         }

@@ -134,8 +134,8 @@ pub fn broken(form: &[u8], own: &[u8], bank: &[u8], before: usize) -> u64
         return 0;
     }
     let kinds = kinds::table();
-    let set = of_money(&kinds, form, own, bank, 0);
-    of_payer(&kinds, form, own, before, set)
+    let set = of_money(kinds, form, own, bank, 0);
+    of_payer(kinds, form, own, before, set)
 }
 
 // The text of the rule at a place of the table, its field and its code: eight bytes, the first one lowest.

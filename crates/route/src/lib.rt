@@ -50,7 +50,7 @@ fn is_file_name(s: &[u8]) -> bool
     ensures { result ≡ file_name s.now }
 {
     let kinds = kinds::table();
-    (s.len() == 20) & all_of(&kinds, PRINTABLE, s)
+    (s.len() == 20) & all_of(kinds, PRINTABLE, s)
 }
 
 // Refusals 1, 2 and 3, the lowest that applies; then 0823; then 0822 and 0840.

@@ -167,10 +167,10 @@ pub fn broken(form: &[u8], own: &[u8]) -> u64
         return 0;
     }
     let kinds = kinds::table();
-    let set = of_260_to_290(&kinds, own, 0);
+    let set = of_260_to_290(kinds, own, 0);
     let set = of_reserves(own, set);
-    let set = of_50_to_90(&kinds, own, set);
-    of_head(&kinds, form, own, set)
+    let set = of_50_to_90(kinds, own, set);
+    of_head(kinds, form, own, set)
 }
 
 // The text of the rule at a place of the table, its field and its code: eight bytes, the first one lowest.
