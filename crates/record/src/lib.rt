@@ -126,8 +126,8 @@ pub fn error_model(ssn: &[u8], id: &[u8], form: &[u8], page: &[u8], occurrence: 
     r
 }
 
-#[tactic(auto, using(crate::proofs::Laws::error_made))]
-fn error_by(model: &[u8; 120], n: u32, text: u64) -> [u8; 120]
+#[tactic(auto, unfolding(crate::specs::Parts::error_by))]
+fn error_by(model: &[u8; 120], n: u32, text: [u8; 8]) -> [u8; 120]
     ensures { result ≡ error_by model.now n text }
 {
     let mut r = *model;
@@ -137,7 +137,7 @@ fn error_by(model: &[u8; 120], n: u32, text: u64) -> [u8; 120]
         30,
         &text::written::<2>(u64::from(n)),
     );
-    text::put_word(&mut r, layout::start_of(Layout::LError, 80), text);
+    lay(&mut r, Layout::LError, 80, &text);
     r
 }
 
@@ -196,7 +196,7 @@ pub fn put_key(out: &mut [u8], at: usize, key: Key)
 }
 
 // ACK Error: a model with its running number and the eight digits of its rule, the field and the code.
-pub fn put_error(out: &mut [u8], at: usize, model: &[u8; 120], n: u32, text: u64)
+pub fn put_error(out: &mut [u8], at: usize, model: &[u8; 120], n: u32, text: [u8; 8])
     ensures { out.new ≡ placed out.old at (error_by model.now n text) }
 {
     put(out, at, &error_by(model, n, text))
