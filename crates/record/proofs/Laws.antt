@@ -1,7 +1,7 @@
 -- A record written at a place of an output. Assumes nothing.
 use mathlib.Core.Path.{◌≡◌, refl, sym, ap, ◌∙◌}
 use Rattle.std.proofs.Common.{rules}
-use mathlib.Core.List.{[], ◌∷◌, ◌++◌, append_assoc}
+use mathlib.Core.List.{[], ◌∷◌, ◌++◌}
 use Prim.{tt}
 use Prim.Native.Nat.{ℕ, suc, ◌+◌, ◌-◌, ◌/◌, ◌%◌, ◌<◌, ◌≤◌}
 use native.Mathlib.Omega.{arith}
@@ -9,19 +9,17 @@ use borrow.Author.Tests.{le-leb, lt-leb}
 use borrow.Rule.Slice.PartMut.{put_mid}
 use lib.Dec.{lit≤}
 use lib.ListN.{length, take, drop, set, length-take, length-drop, take-append-drop}
-use lib.Seq.{sets, sets-eq, set-set, set_comm, length-take-le, take_all, take-add, drop-drop}
+use lib.Seq.{sets, set-set, set_comm, length-take-le, take_all, take-add}
 use Rattle.paper.specs.Bytes.{Bytes, bytes, part, written, laid}
 use Rattle.paper.specs.Layouts.{entry, ack_error}
 use Rattle.paper.specs.File.{error_record, record_of}
-use Rattle.text.proofs.Laying.{laid_append}
+use Rattle.text.proofs.Laying.{laid_append, laid_copy}
 use Rattle.record.specs.Parts.{error_model, error_by, placed}
 
 -- a text written over a part of the same length
 pub mid_laid : (r s : Bytes) (at k : ℕ) → k ≡ length s → at + length s ≤ length r → put_mid at k r s ≡ laid r at s
-unfolding laid
 mid_laid r s at k e h =
-    let d : drop k (drop at r) ≡ drop (at + length s) r = drop-drop k at r ∙ ap (λ (m : ℕ). drop (at + m) r) e in
-    ap (λ (q : Bytes). take at r ++ (s ++ q)) d ∙ sym (append_assoc (take at r) s (drop (at + length s) r)) ∙ sym (sets-eq s r at h)
+    ap (put_mid at k r) (sym (take_all (length s) s (omega arith))) ∙ laid_copy r s at (length s) k (omega arith) (omega arith) e
 
 module _ (out r : Bytes) (at : ℕ) where
   -- no room

@@ -40,7 +40,7 @@ fn lay_text(r: &mut [u8], at: usize, text: &[u8])
     ensures { r.new ≡ laid r.old at text.now }
 {
     let n = text.len();
-    let fits = n <= r.len().saturating_sub(at);
+    let fits = at.saturating_add(n) <= r.len();
     match n {
         4..=7 if fits => {
             copy::<4>(r, at, text, 0);
@@ -183,7 +183,7 @@ fn recap_record(recap: &[u8], twelve: &[u8], accepted: u32, all: u32, name: &[u8
 fn put(out: &mut [u8], at: usize, r: &[u8; 120])
     ensures { out.new ≡ placed out.old at r.now }
 {
-    if 120 <= out.len().saturating_sub(at) {
+    if at.saturating_add(120) <= out.len() {
         out[at..at + 120].copy_from_slice(r)
     }
 }
