@@ -8,6 +8,7 @@ use lib.Count.{ones}
 use lib.Dec.{eqb}
 use lib.ListN.{length, take, drop, length-append, length-map}
 use borrow.Author.Tests.{eqb-true}
+use Rattle.paper.specs.declared.Broken.{Broken}
 use Rattle.paper.specs.declared.Facts.{Facts}
 use Rattle.paper.specs.declared.Kind.{Kind}
 use Rattle.paper.specs.declared.Kind.TheVariants.{TranA, TranB, Form, Unknown, Payment, Auth, Summary, Recap, Stray}
@@ -28,7 +29,7 @@ use Rattle.walk.proofs.Facts.{head_kind, head_part, head_left, head_fits, goes_s
 use Rattle.rules.specs.declared.Before.{Before}
 use Rattle.rules.specs.Sets.{others_of, chosen}
 use Rattle.rules.proofs.Laws.{chosen_those, bits_none, bits_ones, few_rules, others_are}
-use Rattle.judge.specs.Kept.{Broke, broke_if, on_auth, total, Held, added}
+use Rattle.judge.specs.Kept.{broke_if, on_auth, total, Held, added}
 use Rattle.judge.specs.Judged.{bank_for, item_in, set_in, broke_from, counts}
 use Rattle.judge.proofs.Kept.{added_nil, added_append, any_append, total_append}
 
@@ -44,7 +45,7 @@ module _ (banks : Bytes) (s : Sight) (t : Bytes) (end : ℕ) (w : Held) where
     pub within : to ≤ length t
     pub pays : b.pays ≤ to
     pub aths : b.aths ≤ to
-    pub rows : found.rows ≤ 96
+    pub rows : length found.list ≤ 96
     pub kept : found.kept ≤ 96
     pub size : to + sizes (own_in (drop to t)) ≡ end
     pub same : added found (broke_from s to b.pays b.aths (map (item_in banks) (own_in (drop to t)))) ≡ w
@@ -98,7 +99,7 @@ module _ (banks form payer spouse : Bytes) (whole : Facts) (t : Bytes) (end : �
           ∙ others_are form payer spouse r (bank_for banks (kind_of r) r) [] [] [] [] whole b (kind_of r) (ran_goes more) nform (kind_fits r)
 
       -- one record on; g is what is held with it
-      pub ran_on : (g : Held) (c : Before) → g ≡ added found (broke_if to k set) → g.rows ≤ 96 → g.kept ≤ 96 → c ≡ counts b k → Ran banks S t end w g c (to + h.size)
+      pub ran_on : (g : Held) (c : Before) → g ≡ added found (broke_if to k set) → length g.list ≤ 96 → g.kept ≤ 96 → c ≡ counts b k → Ran banks S t end w g c (to + h.size)
       unfolding head_of
       ran_on g c eg few low ec =
           let n : h.size ≡ length r = ap (λ (x : Head). x.size) eh in
@@ -115,7 +116,7 @@ module _ (banks form payer spouse : Bytes) (whole : Facts) (t : Bytes) (end : �
             size = omega (arith, i.size, ap sizes l, n);
             same =
                 (λ j. added (eg j) (broke_from S (to + h.size) (cp j) (ca j) rest))
-                ∙ added_append found (broke_if to k set) (broke_from S (to + h.size) (b.pays + bit (is Payment k)) (b.aths + bit (is Auth k)) rest) i.rows
+                ∙ added_append found (broke_if to k set) (broke_from S (to + h.size) (b.pays + bit (is Payment k)) (b.aths + bit (is Auth k)) rest)
                 ∙ (λ j. added found (broke_if to (kind j) (set_is j) ++ broke_from S (to + n j) (b.pays + bit (is Payment (kind j))) (b.aths + bit (is Auth (kind j))) rest))
                 ∙ ap (λ (x : List Bytes). added found (broke_from S to b.pays b.aths (map (item_in banks) x))) (sym l)
                 ∙ i.same;
@@ -140,7 +141,7 @@ module _ (t : Bytes) (at : ℕ) (doc : Extent) (form : Bytes) (ed : doc ≡ exte
   unfolding extent_of
   form_end = omega (arith, ap (λ (x : Extent). x.size) ed, ap length ef, ap sizes others)
 
-  pub ran_start : (banks payer spouse : Bytes) (first : Held) → first.rows ≤ 96 → first.kept ≤ 96
+  pub ran_start : (banks payer spouse : Bytes) (first : Held) → length first.list ≤ 96 → first.kept ≤ 96
       → Ran banks (sight form payer spouse [] [] [] [] doc.facts) t (at + doc.size)
       (added first (broke_from (sight form payer spouse [] [] [] [] doc.facts) (at + length form) 0 0 (map (item_in banks) (doc_here (drop at t)).others))) first (record { pays = 0; aths = 0 }) (at + length form)
   ran_start banks payer spouse first few low = record {
@@ -206,9 +207,9 @@ module _ (place : ℕ) (k : Kind) (v : View) where
           go false e (y ∷ m) = go false e m ∙ ap (λ (c : Bool). c || any onAuthFound (map (mark k v.own) m)) (sym e)
 
   one_empty : empty (broke_if place k (set_in k v)) ≡ empty (finds_in k v)
-  one_empty = ap (λ (b : Bool). empty {A = Broke} (cond b [] (record { place = place; kind = k; set = set_in k v } ∷ []))) none_same ∙ by rules
+  one_empty = ap (λ (b : Bool). empty {A = Broken} (cond b [] (record { place = place; kind = k; set = set_in k v } ∷ []))) none_same ∙ by rules
     where
-      by : (l : List ℕ) → empty {A = Broke} (cond (empty l) [] (record { place = place; kind = k; set = set_in k v } ∷ [])) ≡ empty (map (mark k v.own) l)
+      by : (l : List ℕ) → empty {A = Broken} (cond (empty l) [] (record { place = place; kind = k; set = set_in k v } ∷ [])) ≡ empty (map (mark k v.own) l)
       by [] = refl
       by (x ∷ l) = refl
 
@@ -268,7 +269,7 @@ Standing t place [] = Unit {0}
 Standing t place (r ∷ rs) = (42 ≤ length r) × (r ≡ take (length r) (drop place t)) × Standing t (place + length r) rs
 
 -- the findings of a record that breaks a rule, read in t
-abbrev pub found_of : Bytes → Broke → List Finding
+abbrev pub found_of : Bytes → Broken → List Finding
 found_of t b = map (mark b.kind (drop b.place t)) (chosen b.set (rules_of b.kind))
 
 module _ (t : Bytes) (place : ℕ) (k : Kind) (v : View) (long : 42 ≤ length v.own) (here : v.own ≡ take (length v.own) (drop place t)) where
