@@ -1,13 +1,15 @@
 -- Digits, and the number that they write: each of the two gives the other. Assumes nothing.
 use Prim.Native.Nat.{ℕ, zero, suc, ◌+◌, ◌*◌, ◌/◌, ◌%◌, ◌^◌, ◌≤◌, ◌<◌}
-use mathlib.Core.Bool.{Bool, true, false, not, cond, not-not}
+use mathlib.Core.Bool.{Bool, true, false, cond}
 use mathlib.Core.List.{[], ◌∷◌, ◌++◌, append-nil, append_assoc}
 use mathlib.Core.Path.{◌≡◌, refl, sym, ap, ◌∙◌}
 use native.Mathlib.Nat.{mul_assoc, pow-suc, one-le-pow, mod-lt, mod-eq_of_lt, div-add-mod', mul-add-mod_self_right}
 use native.Mathlib.Omega.{arith}
 use lib.Dec.{eqb, leb}
 use lib.ListN.{length, take}
-use borrow.Author.Tests.{eq-eqb, ne_eqb, eqb-true, le-leb, leb-true}
+use borrow.Author.Tests.{eq-eqb, eqb-true, le-leb, leb-true}
+use Rattle.std.proofs.Common.{Some, None}
+use Rattle.std.specs.Option.{is_some}
 use Rattle.paper.specs.Bytes.{Bytes, run, same, digits, is_digit, digit_on, number, written}
 use Rattle.paper.proofs.Laws.{both, same_eq, same_self}
 use Rattle.paper.proofs.Numbers.{value_append}
@@ -84,14 +86,11 @@ same_number s t e h g = go (same s t) refl (eqb (number s) (number t)) refl
     go false p true q = sym p ∙ ap (same s) (sym (equal (eqb-true (number s) (number t) q))) ∙ same_self s
     go false p false q = refl
 
--- a number or none
-pub none_number : (f : Bytes) → eqb (number_if f) 0 ≡ not (digits f)
+-- a number, and none
+pub some_number : (f : Bytes) → is_some (number_if f) ≡ digits f
 unfolding number_if
-none_number f = by (digits f)
+some_number f = by (digits f)
   where
-    by : (d : Bool) → eqb (cond d (number (take 16 f) + 1) 0) 0 ≡ not d
-    by true = ne_eqb (number (take 16 f) + 1) 0 (λ e. omega arith)
+    by : (d : Bool) → is_some (cond d (Some (number (take 16 f))) None) ≡ d
+    by true = refl
     by false = refl
-
-pub some_number : (f : Bytes) → not (eqb (number_if f) 0) ≡ digits f
-some_number f = ap not (none_number f) ∙ not-not (digits f)

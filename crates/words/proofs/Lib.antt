@@ -1,3 +1,4 @@
+pub mod Days
 pub mod Digits
 pub mod Tables
 pub mod Told

@@ -1,11 +1,17 @@
 -- The rules of a table: a place that is none of its, and its set from the sets of its parts. Assumes nothing.
 use Prim.Native.Nat.{ℕ, zero, suc, ◌≤◌}
-use mathlib.Core.Bool.{Bool}
+use mathlib.Core.Bool.{Bool, true, false}
 use mathlib.Core.List.{List, [], ◌∷◌}
 use mathlib.Core.Path.{◌≡◌, refl, ap, ◌∙◌}
 use native.Mathlib.Omega.{arith}
 use lib.ListN.{length, take, drop, get_or, get_or-eq_default}
+use Rattle.std.specs.Int.{from_bool}
+use Rattle.paper.specs.Bytes.{bit}
 use Rattle.words.specs.Sets.{bit_on, bits_on, bits_by}
+
+pub bit_from : (b : Bool) → from_bool b ≡ bit b
+bit_from true = refl
+bit_from false = refl
 
 -- none of the first n places
 abbrev Past : ℕ → ℕ → Type 0

@@ -1,7 +1,7 @@
 -- What the tests by a table k that is lent say, where it is the table of kinds: of a field f that is digits or present but not digits, and
 -- of a date and a PIN. Assumes nothing.
 use Prim.Native.Nat.{ℕ}
-use mathlib.Core.Bool.{Bool, true, false, not, ◌&&◌, ◌||◌}
+use mathlib.Core.Bool.{Bool, true, false, not, beq, ◌&&◌, ◌||◌}
 use mathlib.Core.List.{List}
 use mathlib.Core.Path.{◌≡◌, refl, ap, ◌∙◌}
 use Rattle.paper.specs.Bytes.{Bytes, every, before, is_digit, present, digits, all_zeros}
@@ -15,6 +15,12 @@ use Rattle.date.proofs.Days.{date_parts}
 once : (p d x : Bool) → (p && (p && not d || x)) ≡ (p && (not d || x))
 once true d x = refl
 once false d x = refl
+
+pub same_or_neither : (a b : Bool) → beq a b ≡ (a && b || not a && not b)
+same_or_neither true true = refl
+same_or_neither true false = refl
+same_or_neither false true = refl
+same_or_neither false false = refl
 
 pub not_both : (a b : Bool) → (not a || not b) ≡ not (a && b)
 not_both true b = refl

@@ -13,37 +13,32 @@ ghost use Rattle.words.specs.Sets.{bit_on};
 pub fn not_x(f: &[u8]) -> bool
     ensures { result ≡ not_x f.now }
 {
-    !(text::is_same(f, b"X") | text::blank(f))
+    !(text::is_same(f, b"X") || text::blank(f))
 }
 
 // 0010: present and no valid date. It is enough to tell of a present field that it is not digits.
 pub fn not_date(not_digits: bool, f: &[u8]) -> bool
     ensures { result ≡ (present f.now && (not_digits || not (is_day f.now))) }
 {
-    if text::blank(f) {
-        return false;
-    }
-    not_digits | !date::is_day(f)
+    !text::blank(f) && (not_digits || !date::is_day(f))
 }
 
 // 0010: not digits or zero.
 pub fn not_positive(not_digits: bool, f: &[u8]) -> bool
     ensures { result ≡ (not_digits || all_zeros f.now) }
 {
-    not_digits | text::zeros(f)
+    not_digits || text::zeros(f)
 }
 
 // 0010: present and not digits above zero, told likewise.
 pub fn not_pin(not_digits: bool, f: &[u8]) -> bool
     ensures { result ≡ (present f.now && (not_digits || all_zeros f.now)) }
 {
-    if text::blank(f) {
-        return false;
-    }
-    not_positive(not_digits, f)
+    !text::blank(f) && not_positive(not_digits, f)
 }
 
 // The byte is one of these.
+#[tactic(auto, unfolding(paper::specs::Conditions::one_of))]
 pub fn one_of(allowed: &[u8], f: &[u8]) -> bool
     ensures { result ≡ one_of allowed.now f.now }
 {
@@ -54,7 +49,7 @@ pub fn one_of(allowed: &[u8], f: &[u8]) -> bool
 pub fn other_number(is_digits: bool, f: &[u8], ssn: &[u8]) -> bool
     ensures { result ≡ (not is_digits || not (same f.now ssn.now)) }
 {
-    !is_digits | !text::is_same(f, ssn)
+    !is_digits || !text::is_same(f, ssn)
 }
 
 // 0044: page not "PG01 ".
@@ -69,51 +64,49 @@ pub fn wrong_page(f: &[u8]) -> bool
 pub fn not_double_0(is_digits: bool, f: &[u8]) -> bool
     ensures { result ≡ (is_digits && not (same (take 2 f.now) (bytes "00"))) }
 {
-    is_digits & !text::is_same(text::piece(f, 0, 2), b"00")
+    is_digits && !text::is_same(text::piece(f, 0, 2), b"00")
 }
 
 // 0064: digits, last not 4.
 pub fn not_year_4(is_digits: bool, f: &[u8]) -> bool
     ensures { result ≡ (is_digits && not (same (part 13 1 f.now) (bytes "4"))) }
 {
-    is_digits & !text::is_same(text::piece(f, 13, 1), b"4")
+    is_digits && !text::is_same(text::piece(f, 13, 1), b"4")
 }
 
 // 0071: present, and not digits, all 0 or all 9.
 pub fn no_number(is_digits: bool, f: &[u8]) -> bool
     ensures { result ≡ (present f.now && (not is_digits || all_zeros f.now || all_nines f.now)) }
 {
-    if text::blank(f) {
-        return false;
-    }
-    !is_digits | text::zeros(f) | text::nines(f)
+    !text::blank(f) && (!is_digits || text::zeros(f) || text::nines(f))
 }
 
 // 0315, 0316: the number is digits, and no line has this control.
 pub fn unlisted(is_digits: bool, control: &[u8], line: &[u8]) -> bool
     ensures { result ≡ (is_digits && not (same (control_in line.now) control.now)) }
 {
-    is_digits & !text::is_same(text::piece(line, 9, 4), control)
+    is_digits && !text::is_same(text::piece(line, 9, 4), control)
 }
 
 // 0312: has & while 0100 is blank, or the other way round.
+#[tactic(auto, unfolding(paper::specs::Conditions::wrong_and), using(crate::proofs::Told::same_or_neither))]
 pub fn wrong_and(f: &[u8], spouse: &[u8]) -> bool
     ensures { result ≡ wrong_and f.now spouse.now }
 {
-    let has = text::has(f, b'&');
-    let none = text::blank(spouse);
-    has & none | !has & !none
+    text::has(f, b'&') == text::blank(spouse)
 }
 
 // A day comes after a last one of eight bytes; where it has eight too, they are compared as numbers.
+#[tactic(auto, using(crate::proofs::Days::by_numbers))]
 fn is_after(day: &[u8], last: &[u8]) -> bool
     requires { length last.now ≡ 8 }
     ensures { result ≡ before last.now day.now }
 {
-    if day.len() != 8 {
-        return text::is_before(last, day);
+    if day.len() == 8 {
+        text::rank(last, 0) < text::rank(day, 0)
+    } else {
+        text::is_before(last, day)
     }
-    text::rank(last, 0) < text::rank(day, 0)
 }
 
 // 0310: received after 20040415.
@@ -135,28 +128,21 @@ pub fn is_foreign(indicator: &[u8]) -> bool
 fn is_after_last(abroad: bool, f: &[u8]) -> bool
     ensures { result ≡ before (last_pay_day «abroad») f.now }
 {
-    if abroad {
-        return is_after(f, b"20040615");
-    }
-    is_after(f, b"20040415")
+    let last = if abroad { b"20040615" } else { b"20040415" };
+    is_after(f, last)
 }
 
 // 0397: no valid date or after that day.
 pub fn wrong_pay_date(is_digits: bool, abroad: bool, f: &[u8]) -> bool
     ensures { result ≡ (not (is_digits && is_day f.now) || before (last_pay_day «abroad») f.now) }
 {
-    !(is_digits & date::is_day(f)) | is_after_last(abroad, f)
-}
-
-fn one_if(b: bool) -> u64
-    ensures { (result ≡ bit b) × (result ≤ 1) }
-{
-    if b { 1 } else { 0 }
+    !(is_digits && date::is_day(f)) || is_after_last(abroad, f)
 }
 
 // A rule before the later ones of a set.
+#[tactic(auto, unfolding(crate::specs::Sets::bit_on), using(crate::proofs::Tables::bit_from))]
 pub fn and_rule(is_broken: bool, later: u64) -> u64
     ensures { result ≡ bit_on is_broken later }
 {
-    later % 9223372036854775808 * 2 + one_if(is_broken)
+    later % 9223372036854775808 * 2 + u64::from(is_broken)
 }

@@ -1,6 +1,7 @@
-use mathlib.Core.Path.{◌≡◌, sym, ap, ◌∙◌}
-use mathlib.Core.Bool.{true}
+-- Two days of eight bytes as numbers. Assumes nothing.
 use Prim.Native.Nat.{ℕ}
+use mathlib.Core.Bool.{true}
+use mathlib.Core.Path.{◌≡◌, sym, ap, ◌∙◌}
 use native.Mathlib.Nat.{le_of_eq}
 use native.Mathlib.Omega.{arith}
 use lib.Dec.{ltb}
@@ -9,12 +10,8 @@ use lib.Seq.{take_all}
 use Rattle.paper.specs.Bytes.{Bytes, every, before, part}
 use Rattle.text.specs.Words.{is_byte, high}
 use Rattle.text.proofs.Words.{before_high}
-use borrow.Author.Rules.{rules}
-use Rattle.words.proofs.is_after.Statement.{statement}
-use Rattle.words.proofs.is_after.Tie as tie
 
--- two days of eight bytes, as numbers
-by_numbers : (s t : Bytes) {a b : ℕ} → length s ≡ 8 → length t ≡ 8
+pub by_numbers : (s t : Bytes) {a b : ℕ} → length s ≡ 8 → length t ≡ 8
     → a ≡ high 8 (part 0 8 s) → every is_byte (part 0 8 s) ≡ true
     → b ≡ high 8 (part 0 8 t) → every is_byte (part 0 8 t) ≡ true
     → ltb a b ≡ before s t
@@ -24,13 +21,3 @@ by_numbers s t l m e h f g =
     (λ i. ltb (e i) (f i))
     ∙ (λ i. ltb (high 8 (p i)) (high 8 (q i)))
     ∙ sym (before_high 8 s t (sym (ap (every is_byte) p) ∙ h) (sym (ap (every is_byte) q) ∙ g) (l ∙ sym m) (omega arith))
-
-pub is_after_spec : {M : Type 1} → statement M
-is_after_spec =
-    tie.close
-    (tie.spec
-    (λ c κs. search rules)
-    (λ c. search rules)
-    (λ c κs. search rules)
-    (λ c κs. search rules)
-    (λ c. by_numbers c.before.before.before.before.before.args.last.now c.before.before.before.before.before.args.day.now c.before.before.before.before.before.requires c.before.before.if-day-ne8.false c.before.rank.ensures.0 c.before.rank.ensures.1 c.rank-2.ensures.0 c.rank-2.ensures.1))
