@@ -155,16 +155,17 @@ module _ (room : ℕ) (form : Bytes) (l : Letter) (p : Trail) (some : length p.a
 -- a form adds its number where it got A, and nothing else
 pub next_few : (room : ℕ) (x : Identity) (l : Letter) (p : Trail) → length (next_past room x l p).accepted ≤ length p.accepted + cond (is_a l) 1 0
 unfolding next_past
-next_few room x l p = by (is_a l) (ltb (length p.accepted) room) x.ssn
+next_few room x l p = by x.ssn
   where
-    added-one : (n : Option ℕ) (a b : Bool) → List ℕ
-    added-one None a b = p.accepted
-    added-one (Some n) a b = cond (a && b) (p.accepted ++ n ∷ []) p.accepted
+    none : (a : Bool) → length p.accepted ≤ length p.accepted + cond a 1 0
+    none true = omega arith
+    none false = omega arith
 
-    by : (a b : Bool) (n : Option ℕ) → length (added-one n a b) ≤ length p.accepted + cond a 1 0
-    by true true None = omega arith
-    by true false None = omega arith
-    by false b None = omega arith
-    by true true (Some n) = omega (arith, length-append p.accepted (n ∷ []))
-    by true false (Some n) = omega arith
-    by false b (Some n) = omega arith
+    one : (a b : Bool) (n : ℕ) → length (cond (a && b) (p.accepted ++ n ∷ []) p.accepted) ≤ length p.accepted + cond a 1 0
+    one true true n = omega (arith, length-append p.accepted (n ∷ []))
+    one true false n = omega arith
+    one false b n = omega arith
+
+    by : (n : Option ℕ) → length (accepted_after room n l p.accepted) ≤ length p.accepted + cond (is_a l) 1 0
+    by None = none (is_a l)
+    by (Some n) = one (is_a l) (ltb (length p.accepted) room) n

@@ -21,7 +21,7 @@ pub loop-to-init : goal.loop-to-init
 loop-to-init c =
     let a = c.args in
     let q = c.requires in
-    ran_start a.t.now a.at a.doc a.form.now q.0 q.1 q.2 a.banks.now a.payer.now a.spouse.now (held a.list.now a.first) q.3 q.4
+    ran_start a.t.now a.at a.doc a.form.now q.0 q.1 q.2 a.banks.now a.payer.now a.spouse.now (held a.list.now.items a.first) q.3 q.4
 
 pub overflow_add-next : goal.overflow_add-next
 overflow_add-next c =
@@ -47,7 +47,7 @@ loop-to-preserved c =
     let q = c.requires in
     let e = c.collected-found.ensures in
     ran_on a.banks.now a.form.now a.payer.now a.spouse.now a.doc.facts a.t.now (a.at + a.doc.size) _ _ _ _ c.loop-to.invariant c.head_at-head.result c.loop-to-test.true c.head_at-head.ensures _ _ _ refl
-    (form_size a.t.now a.at a.doc a.form.now q.0 q.1 q.2) c.bank_of-bank.ensures c.others-set.ensures _ _ e.result_after e.rows_bound.0 e.rows_bound.1 c.counted-before.ensures
+    (form_size a.t.now a.at a.doc a.form.now q.0 q.1 q.2) c.bank_of-bank.ensures c.others-set.ensures _ _ e.result_after e.bounds.0 e.bounds.1 c.counted-before.ensures
 
 pub returns : goal.returns
 returns c =
