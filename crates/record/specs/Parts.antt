@@ -1,10 +1,10 @@
--- How each record of the acknowledgment file begins and ends, the counts of the ACK Recap, and where a record goes. Assumes nothing.
-use Rattle.std.specs.Prelude.{ℕ, ◌+◌, ◌-◌, cond, [], ◌∷◌, leb, length}
+-- How each record of the acknowledgment file begins and ends, an Error record by its model, and where a record goes. Assumes nothing.
+use Rattle.std.specs.Prelude.{ℕ, ◌+◌, cond, [], ◌∷◌, leb, length}
 use Rattle.paper.specs.declared.Layout.{Layout}
-use Rattle.paper.specs.declared.Layout.TheVariants.{LError, LAckRecap}
-use Rattle.paper.specs.Bytes.{Bytes, bytes, written, zeros, blanks, laid}
+use Rattle.paper.specs.declared.Layout.TheVariants.{LError}
+use Rattle.paper.specs.Bytes.{Bytes, bytes, written, blanks, laid}
 use Rattle.paper.specs.Layouts.{entry}
-use Rattle.paper.specs.File.{fields, record_of}
+use Rattle.paper.specs.File.{record_of}
 use Rattle.text.specs.Words.{bytes_of}
 
 -- 120 blanks, the byte count, and field 0, the record's id
@@ -14,18 +14,6 @@ started l id = laid (laid (blanks 120) 0 (bytes "0120****")) (entry l 0).start i
 -- the last byte
 unfoldable pub ended : Bytes → Bytes
 ended r = laid r 119 (bytes "#")
-
--- accepted, rejected (R and D), computed count
-unfoldable pub counted : Bytes → ℕ → ℕ → Bytes
-counted r accepted all =
-    fields LAckRecap r
-    ((70, written 6 accepted)
-    ∷ (80, zeros 6)
-    ∷ (90, written 6 (all - accepted))
-    ∷ (100, zeros 6)
-    ∷ (110, zeros 6)
-    ∷ (120, written 6 all)
-    ∷ [])
 
 -- an Error record without its running number and its rule: primary number, ID, type, page, occurrence
 -- tied to the paper by `error_said` of record/Laws

@@ -1,25 +1,25 @@
 // The file of a whole rejection: one Key with T, and an Error record a code.
 #![tactic(auto)]
 
-ghost use Rattle.std.specs.Prelude.{◌≡◌, cond, ◌++◌, ◌+◌, ◌*◌, ◌/◌, ◌%◌, ◌≤◌, eqb, length};
+ghost use Rattle.std.specs.Prelude.{◌≡◌, ◌++◌, ◌+◌, ◌*◌, ◌/◌, ◌%◌, ◌≤◌, length};
 ghost use Rattle.paper.specs.Bytes.{written, zeros, blanks, laid};
 ghost use Rattle.paper.specs.File.{error_record, code_list, whole_errors, rejection};
 ghost use Rattle.paper.specs.Answer.{room_for, left_by};
 ghost use Rattle.text.specs.Words.{little};
-ghost use Rattle.rejection.specs.Given.{codes_by, code_row};
 
-use paper::{Answer, Codes, Refusal, Verdict};
-use record::Marks;
+use paper::{Codes, Refusal, Verdict};
+use record::Key;
 
-// The codes in their order; 0 for no second one.
-fn codes_of(codes: Codes) -> [u32; 2]
-    ensures { result ≡ code_row codes }
+// The codes, ascending.
+fn codes_of(codes: Codes) -> &'static [u32]
+    ensures value { result.now ≡ code_list codes }
+    ensures upper_bound { length result.now ≤ 2 }
 {
     match codes {
-        Codes::C0823 => [823, 0],
-        Codes::C0822 => [822, 0],
-        Codes::C0840 => [840, 0],
-        Codes::C0822And0840 => [822, 840],
+        Codes::C0823 => &[823],
+        Codes::C0822 => &[822],
+        Codes::C0840 => &[840],
+        Codes::C0822And0840 => &[822, 840],
     }
 }
 
@@ -27,21 +27,11 @@ fn codes_of(codes: Codes) -> [u32; 2]
 fn text_of(code: u32) -> u64
     ensures { result ≡ little (written 4 (code / 10000) ++ written 4 (code % 10000)) }
 {
-    let field = code as u64 / 10000;
-    let last = code as u64 % 10000;
-    (((((((last % 10 + 48) * 256 + (last / 10 % 10 + 48)) * 256 + (last / 10 / 10 % 10 + 48)) * 256
-        + (last / 10 / 10 / 10 % 10 + 48))
-        * 256
-        + (field % 10 + 48))
-        * 256
-        + (field / 10 % 10 + 48))
-        * 256
-        + (field / 10 / 10 % 10 + 48))
-        * 256
-        + (field / 10 / 10 / 10 % 10 + 48)
+    u64::from_le_bytes(text::written::<8>(u64::from(code)))
 }
 
 // The n-th Error record, for a code.
+#[tactic(auto, using(crate::proofs::Laws::code_laid))]
 fn put_code(out: &mut [u8], n: u32, code: u32)
     requires { 120 * n + 120 ≤ length out.old }
     ensures { out.new ≡ laid out.old (120 * n) (error_record (zeros 9) n (blanks 6) (blanks 6) (zeros 5) (zeros 7) code) }
@@ -50,20 +40,14 @@ fn put_code(out: &mut [u8], n: u32, code: u32)
     record::put_error(out, 120 * n as usize, &model, n, text_of(code))
 }
 
-fn errors_of(second: u32) -> u32
-    ensures { (result ≡ cond (eqb second 0) 1 2) × (result ≤ 2) }
-{
-    if second == 0 { 1 } else { 2 }
-}
-
 // An Error record a code.
-fn put_codes(out: &mut [u8], first: u32, second: u32)
-    requires { 120 + 120 * cond (eqb second 0) 1 2 ≤ length out.old }
-    ensures { out.new ≡ laid out.old 120 (whole_errors 1 (codes_by first second)) }
+fn put_codes(out: &mut [u8], codes: &[u32])
+    requires few { length codes.now ≤ 2 }
+    requires room { 120 + 120 * length codes.now ≤ length out.old }
+    ensures { out.new ≡ laid out.old 120 (whole_errors 1 codes.now) }
 {
-    put_code(out, 1, first);
-    if second != 0 {
-        put_code(out, 2, second)
+    for (i, code) in codes.iter().enumerate() {
+        put_code(out, i as u32 + 1, *code);
     }
 }
 
@@ -71,40 +55,31 @@ fn put_codes(out: &mut [u8], first: u32, second: u32)
 pub fn size_of(codes: Codes) -> usize
     ensures { result ≡ 120 + 120 * length (code_list codes) }
 {
-    let row = codes_of(codes);
-    let second = row[1];
-    120 + 120 * errors_of(second) as usize
+    120 + 120 * codes_of(codes).len()
 }
 
 // One Key with T, and an Error record a code.
-pub fn reject(sequence: &[u8], codes: Codes, out: &mut [u8]) -> Answer
+pub fn reject(sequence: &[u8], codes: Codes, out: &mut [u8]) -> Result<usize, Refusal>
     ensures value { result ≡ room_for (length out.old) (rejection sequence.now codes) }
     ensures out_after { out.new ≡ left_by result (rejection sequence.now codes) out.old }
 {
-    let row = codes_of(codes);
-    let first = row[0];
-    let second = row[1];
-    let errors = errors_of(second);
     let size = size_of(codes);
     if out.len() < size {
-        return Answer::Refused(Refusal::ShortOutput);
+        return Err(Refusal::ShortOutput);
     }
-    let marks = Marks {
+    let list = codes_of(codes);
+    let key = Key {
+        ssn: b"000000000",
+        sequence,
         verdict: Verdict::Whole(codes),
         pin: b' ',
-        errors,
+        date: b"00000000",
+        control: b"00000000000000",
+        errors: list.len() as u32,
+        literal: b"               ",
         births: b'0',
     };
-    record::put_key(
-        out,
-        0,
-        b"000000000",
-        sequence,
-        marks,
-        b"00000000",
-        b"00000000000000",
-        b"               ",
-    );
-    put_codes(out, first, second);
-    Answer::File(size)
+    record::put_key(out, 0, key);
+    put_codes(out, list);
+    Ok(size)
 }

@@ -1,8 +1,8 @@
-use borrow.Author.Tests.{ne_eqb}
-use Rattle.rejection.proofs.Laws.{two_codes}
+use Rattle.rejection.proofs.Laws.{next_code, no_code}
 use Rattle.rejection.proofs.put_codes.Goals as goal
 
-pub returns-then-second-ne0 : goal.returns-then-second-ne0
-returns-then-second-ne0 c =
-    let a = c.args in
-    two_codes a.out.now c.put_code.new.out a.first a.second c.put_code.ensures c.put_code-then-second-ne0.new.out (ne_eqb _ _ c.if-second-ne0.true) c.put_code-then-second-ne0.ensures
+pub loop-i-preserved : goal.loop-i-preserved
+loop-i-preserved c = next_code c.loop-i.out _ c.args.codes.now c.loop-i.i c.loop-i.invariant c.put_code.new.out c.loop-i-test.true c.put_code.ensures
+
+pub returns : goal.returns
+returns c = no_code c.loop-i.out _ c.args.codes.now c.loop-i.i c.loop-i.invariant c.loop-i-test.false
