@@ -5,6 +5,9 @@ use mathlib.Core.List.{List, [], ◌∷◌}
 use mathlib.Core.Path.{◌≡◌, refl, ap, ◌∙◌}
 use native.Mathlib.Omega.{arith}
 use lib.ListN.{length, take, drop, get_or, get_or-eq_default}
+use Rattle.std.proofs.Common.{fold, reverse}
+use Rattle.std.proofs.lemmas.List.{reverse-append}
+use Rattle.std.proofs.lemmas.List.Sums.{fold_push}
 use Rattle.std.specs.Int.{from_bool}
 use Rattle.paper.specs.Bytes.{bit}
 use Rattle.words.specs.Sets.{bit_on, bits_on, bits_by}
@@ -34,3 +37,10 @@ bits_split p (suc n) (x ∷ rules) later = ap (bit_on (p x)) (bits_split p n rul
 -- the first n rules before the others
 pub bits_first : (p : ℕ → Bool) (n : ℕ) (rules : List ℕ) {r others : ℕ} → r ≡ bits_on p (take n rules) others → others ≡ bits_by p (drop n rules) → r ≡ bits_by p rules
 bits_first p n rules e f = e ∙ ap (bits_on p (take n rules)) f ∙ bits_split p n rules 0
+
+-- a rule for each item, the last one first, is the set of them
+pub fold_bits : (p : ℕ → Bool) (s : List ℕ) (later : ℕ) → fold (λ (set x : ℕ). bit_on (p x) set) later (reverse s) ≡ bits_on p s later
+fold_bits p [] later = refl
+fold_bits p (x ∷ s) later =
+    let f : ℕ → ℕ → ℕ = λ (set y : ℕ). bit_on (p y) set in
+    ap (fold f later) (reverse-append (x ∷ []) s) ∙ fold_push f later (reverse s) x ∙ ap (bit_on (p x)) (fold_bits p s later)

@@ -2,11 +2,13 @@
 // tell, who has the table of kinds. A rule in a set.
 #![tactic(auto)]
 
-ghost use Rattle.std.specs.Prelude.{◌≡◌, not, ◌&&◌, ◌||◌, ◌≤◌, length, take};
+ghost use Rattle.std.specs.Prelude.{◌≡◌, not, ◌&&◌, ◌||◌, ◌≤◌, length, get_or, take};
 ghost use Rattle.paper.specs.Bytes.{bytes, bit, same, before, part, present, all_zeros, all_nines};
 ghost use Rattle.paper.specs.Conditions.{control_in, not_x, one_of, wrong_page, wrong_and, late, is_foreign, last_pay_day};
 ghost use Rattle.date.specs.Day.{is_day};
+ghost use Rattle.text.specs.Words.{little};
 ghost use Rattle.words.specs.Sets.{bit_on};
+ghost use Rattle.words.specs.Tables.{rule_text};
 
 // 0010: not X or blank.
 #[tactic(auto, unfolding(paper::specs::Conditions::not_x))]
@@ -124,19 +126,12 @@ pub fn is_foreign(indicator: &[u8]) -> bool
     text::byte(indicator, 0) == b'3'
 }
 
-// After the last day of a payment: June 15, 2004 for a foreign one, April 15 for any other.
-fn is_after_last(abroad: bool, f: &[u8]) -> bool
-    ensures { result ≡ before (last_pay_day «abroad») f.now }
-{
-    let last = if abroad { b"20040615" } else { b"20040415" };
-    is_after(f, last)
-}
-
-// 0397: no valid date or after that day.
+// 0397: no valid date or after the last day of a payment: June 15, 2004 for a foreign one, April 15 for any other.
 pub fn wrong_pay_date(is_digits: bool, abroad: bool, f: &[u8]) -> bool
     ensures { result ≡ (not (is_digits && is_day f.now) || before (last_pay_day «abroad») f.now) }
 {
-    !(is_digits && date::is_day(f)) || is_after_last(abroad, f)
+    let last = if abroad { b"20040615" } else { b"20040415" };
+    !(is_digits && date::is_day(f)) || is_after(f, last)
 }
 
 // A rule before the later ones of a set.
@@ -145,4 +140,13 @@ pub fn and_rule(is_broken: bool, later: u64) -> u64
     ensures { result ≡ bit_on is_broken later }
 {
     later % 9223372036854775808 * 2 + u64::from(is_broken)
+}
+
+// The text of the rule at a place of a table, its field and its code: eight digits as one number, the first one lowest; zeros past the end.
+#[tactic(auto, unfolding(crate::specs::Tables::rule_text))]
+pub fn text_at(rules: &[u32], i: usize) -> u64
+    ensures { result ≡ little (rule_text (get_or rules.now i 0)) }
+{
+    let rule = rules.get(i).copied().unwrap_or(0);
+    u64::from_le_bytes(text::written::<8>(u64::from(rule)))
 }
