@@ -1,23 +1,22 @@
 -- What a document sees of the earlier ones, as numbers, and what it leaves for the later ones. Assumes nothing.
 use mathlib.Core.Path.{◌≡◌, refl, sym, ap, ◌∙◌}
-use mathlib.Core.Bool.{Bool, true, false, not, cond, ◌&&◌, ◌||◌, or-false, or_assoc}
+use mathlib.Core.Bool.{Bool, true, false, cond, ◌&&◌, ◌||◌}
 use Rattle.std.proofs.Common.{Option, None, Some}
 use mathlib.Core.List.{List, [], ◌∷◌, ◌++◌, map, map-append}
-use Prim.Native.Nat.{ℕ, suc, ◌+◌, ◌-◌, ◌%◌, ◌≤◌, ◌<◌, min}
-use native.Mathlib.Nat.{mod-lt, mod-eq_of_lt}
-use native.Mathlib.Numerals.{add-one}
+use Prim.Native.Nat.{ℕ, ◌+◌, ◌%◌, ◌≤◌, ◌<◌}
+use native.Mathlib.Nat.{mod-lt}
 use native.Mathlib.Omega.{arith}
-use borrow.Author.Tests.{lt-ltb, le-ltb, ne_eqb, ltb-true, ltb-false, leb-true, leb-false}
-use lib.Dec.{eqb, leb, ltb, lit<}
-use lib.ListN.{length, get_or, take, drop, length-take, length-drop, length-append}
-use lib.Seq.{take_all, take-suc-set}
+use borrow.Author.Tests.{lt-ltb, ne_eqb, ltb-true, ltb-false}
+use lib.Dec.{eqb, ltb, lit<}
+use lib.ListN.{length, drop, length-take, length-drop, length-append}
+use lib.Seq.{take_all}
 use Rattle.paper.specs.declared.Identity.{Identity}
 use Rattle.paper.specs.declared.Layout.TheVariants.{L4868}
 use Rattle.paper.specs.declared.Letter.{Letter}
 use Rattle.paper.specs.Bytes.{Bytes, any, those, same, member, part, digits, number, written}
 use Rattle.paper.specs.Layouts.{form4868, entry, field}
 use Rattle.paper.specs.Judge.{start, digits_or, is_a}
-use Rattle.paper.proofs.Laws.{next, never, both, same_eq}
+use Rattle.paper.proofs.Laws.{never, same_eq}
 use Rattle.words.specs.Past.{number_if, identity_of, earlier}
 use Rattle.paper.proofs.Numbers.{length-written}
 use Rattle.words.proofs.Digits.{digits_written, number_written, number_written_whole, written_number, same_number}

@@ -1,8 +1,9 @@
 -- The letter, the records of a document that break a rule, and the judgment. Assumes nothing.
 use mathlib.Core.Path.{◌≡◌, refl, sym, ap, ◌∙◌}
 use mathlib.Core.Bool.{Bool, true, false, not, cond, ◌||◌}
+use Rattle.std.proofs.Common.{Option}
 use mathlib.Core.List.{List, [], ◌∷◌, ◌++◌, map, append-nil}
-use Prim.Native.Nat.{ℕ, suc, ◌+◌, ◌-◌, ◌≤◌, ◌<◌, min}
+use Prim.Native.Nat.{ℕ, ◌+◌, ◌-◌, ◌≤◌, ◌<◌}
 use native.Mathlib.Omega.{arith}
 use borrow.Author.Tests.{eq-eqb, ne_eqb, not-false}
 use lib.Dec.{eqb, ltb}
@@ -36,7 +37,7 @@ use Rattle.walk.proofs.Docs.{own_goes}
 use Rattle.paper.proofs.Records.{kind_none}
 use Rattle.walk.proofs.Laws.{as_part}
 use Rattle.walk.proofs.Facts.{others_here, main_here, doc_fits}
-use Rattle.judge.specs.Kept.{broke_if, no_findings, Held, held, listed, counted, kept_of, added}
+use Rattle.judge.specs.Kept.{broke_if, no_findings, Held, held, listed, kept_of, added}
 use Rattle.judge.specs.Seen.{Trail, numbers_in, seen_by, next_past, past_after}
 use Rattle.judge.specs.Judged.{one_line, searched, bank_for, item_in, set_in, broke_from, sight_in, form_broke, form_births, broke_in, judgment_of}
 use Rattle.judge.proofs.Kept.{added_none, added_append, held_counted, held_listed}
@@ -65,13 +66,13 @@ module _ (clean : Bool) (filed f90 ssn line : Bytes) (accepted : List Bytes) (e-
 
 -- THE RECORDS OF A 4868 DOCUMENT
 
-module _ (t : Bytes) (at : ℕ) (form taxpayers banks states date : Bytes) (p : Trail) (whole : Facts) (k : is Form (kind_of (doc_here (drop at t)).main) ≡ true) (ef : form ≡ (doc_here (drop at t)).main)
+module _ (t : Bytes) (at : ℕ) (form taxpayers banks states date : Bytes) (dsn dcn : Option ℕ) (whole : Facts) (k : is Form (kind_of (doc_here (drop at t)).main) ≡ true) (ef : form ≡ (doc_here (drop at t)).main)
     (f90 f100 f60 payer spouse zips : Bytes) (set : ℕ) (none : Findings) (first r : Held)
     (e90 : f90 ≡ field L4868 90 form) (e-payer : payer ≡ line_in 33 f90 taxpayers)
     (e100 : f100 ≡ field L4868 100 form) (e-spouse : spouse ≡ line_in 33 f100 taxpayers)
     (e60 : f60 ≡ field L4868 60 form) (e-zips : zips ≡ rows_in 8 f60 states)
     (n : length form ≡ 384)
-    (e-set : set ≡ cond (eqb (length form) 384) (bits_by (breaks form payer spouse zips p.dsn p.dcn date whole) form_rules) 0)
+    (e-set : set ≡ cond (eqb (length form) 384) (bits_by (breaks form payer spouse zips dsn dcn date whole) form_rules) 0)
     (e-none : none ≡ no_findings)
     (e-first : first ≡ added (held [] none) (broke_if at Form set))
     (e-others : r ≡ added first (broke_from (sight form payer spouse [] [] [] [] whole) (at + length form) 0 0 (map (item_in banks) (doc_here (drop at t)).others))) where
@@ -79,18 +80,18 @@ module _ (t : Bytes) (at : ℕ) (form taxpayers banks states date : Bytes) (p : 
   d = doc_here (drop at t)
 
   abbrev S : Sight
-  S = sight form payer spouse (lines_in 8 zips) (earlier 16 p.dsn) (earlier 14 p.dcn) date whole
+  S = sight form payer spouse (lines_in 8 zips) (earlier 16 dsn) (earlier 14 dcn) date whole
 
-  seen_is : S ≡ sight_in form taxpayers states date p whole
+  seen_is : S ≡ sight_in form taxpayers states date dsn dcn whole
   unfolding sight_in
   seen_is =
       let x : payer ≡ line_in 33 (field L4868 90 form) taxpayers = e-payer ∙ ap (λ (key : Bytes). line_in 33 key taxpayers) e90 in
       let y : spouse ≡ line_in 33 (field L4868 100 form) taxpayers = e-spouse ∙ ap (λ (key : Bytes). line_in 33 key taxpayers) e100 in
       let z : zips ≡ rows_in 8 (field L4868 60 form) states = e-zips ∙ ap (λ (key : Bytes). rows_in 8 key states) e60 in
-      λ i. sight form (x i) (y i) (lines_in 8 (z i)) (earlier 16 p.dsn) (earlier 14 p.dcn) date whole
+      λ i. sight form (x i) (y i) (lines_in 8 (z i)) (earlier 16 dsn) (earlier 14 dcn) date whole
 
   set_is : set ≡ set_in Form (view S form [] 0 0)
-  set_is = e-set ∙ ap (λ (c : Bool). cond c (bits_by (breaks form payer spouse zips p.dsn p.dcn date whole) form_rules) 0) (eq-eqb (length form) 384 n)
+  set_is = e-set ∙ ap (λ (c : Bool). cond c (bits_by (breaks form payer spouse zips dsn dcn date whole) form_rules) 0) (eq-eqb (length form) 384 n)
 
   go_on : every (λ (x : Bytes). goes_on (kind_of x)) d.others ≡ true
   go_on =
@@ -100,18 +101,18 @@ module _ (t : Bytes) (at : ℕ) (form taxpayers banks states date : Bytes) (p : 
   kind : kind_of d.main ≡ Form
   kind = is_eq Form (kind_of d.main) k
 
-  pub form_found : r ≡ kept_of (form_broke at (doc_here (drop at t)) taxpayers banks states date p whole)
+  pub form_found : r ≡ kept_of (form_broke at (doc_here (drop at t)) taxpayers banks states date dsn dcn whole)
   form_found =
       let o = broke_from S (at + length form) 0 0 (map (item_in banks) d.others) in
       let h = held [] no_findings in
       e-others
-      ∙ (λ i. added ((e-first ∙ (λ j. added (held [] (e-none j)) (broke_if at Form (set_is j)))) i) (others_same banks form payer spouse (lines_in 8 zips) (earlier 16 p.dsn) (earlier 14 p.dcn) date whole d.others (at + length form) 0 0 go_on i))
+      ∙ (λ i. added ((e-first ∙ (λ j. added (held [] (e-none j)) (broke_if at Form (set_is j)))) i) (others_same banks form payer spouse (lines_in 8 zips) (earlier 16 dsn) (earlier 14 dcn) date whole d.others (at + length form) 0 0 go_on i))
       ∙ added_append h (broke_if at Form (set_in Form (view S form [] 0 0))) o
       ∙ added_none (broke_if at Form (set_in Form (view S form [] 0 0)) ++ o)
       ∙ (λ i. kept_of (broke_if at Form (set_in Form (view (seen_is i) form [] 0 0)) ++ broke_from (seen_is i) (at + length form) 0 0 (map (item_in banks) d.others)))
-      ∙ (λ i. kept_of (broke_if at Form (set_in Form (view (sight_in (ef i) taxpayers states date p whole) (ef i) [] 0 0)) ++ broke_from (sight_in (ef i) taxpayers states date p whole) (at + length (ef i)) 0 0 (map (item_in banks) d.others)))
-      ∙ (λ i. kept_of (broke_if at (sym kind i) (set_in (sym kind i) (view (sight_in d.main taxpayers states date p whole) d.main [] 0 0))
-      ++ broke_from (sight_in d.main taxpayers states date p whole) (at + length d.main) (0 + bit (is Payment (sym kind i))) (0 + bit (is Auth (sym kind i))) (map (item_in banks) d.others)))
+      ∙ (λ i. kept_of (broke_if at Form (set_in Form (view (sight_in (ef i) taxpayers states date dsn dcn whole) (ef i) [] 0 0)) ++ broke_from (sight_in (ef i) taxpayers states date dsn dcn whole) (at + length (ef i)) 0 0 (map (item_in banks) d.others)))
+      ∙ (λ i. kept_of (broke_if at (sym kind i) (set_in (sym kind i) (view (sight_in d.main taxpayers states date dsn dcn whole) d.main [] 0 0))
+      ++ broke_from (sight_in d.main taxpayers states date dsn dcn whole) (at + length d.main) (0 + bit (is Payment (sym kind i))) (0 + bit (is Auth (sym kind i))) (map (item_in banks) d.others)))
 
 -- field 0117 of it
 pub births_found : (t : Bytes) (at : ℕ) (form taxpayers : Bytes) (whole : Facts) → is Form (kind_of (doc_here (drop at t)).main) ≡ true → form ≡ (doc_here (drop at t)).main
@@ -227,14 +228,14 @@ module _ (t date : Bytes) (b : Blocks) (at room : ℕ) (p : Trail) (e : Extent) 
   abbrev K : Turn
   K = turn date (seen_by p) (case_if true Z (doc_here (drop at t)))
 
-  sight_is : sight_in (doc_here (drop at t)).main b.one b.four date p e.facts ≡ sight_of K
+  sight_is : sight_in (doc_here (drop at t)).main b.one b.four date p.dsn p.dcn e.facts ≡ sight_of K
   unfolding sight_in seen_by extent_of
   sight_is =
       let d = doc_here (drop at t) in
       λ i. sight d.main (sym (searched_taxpayer b (ssn_of d)) i) (sym (searched_taxpayer b (spouse_of d)) i)
       (sym (searched_states b (state_of d)) i) (earlier 16 p.dsn) (earlier 14 p.dcn) date (ee i).facts
 
-  form_broke_lem : form_broke at (doc_here (drop at t)) b.one b.two b.four date p e.facts ≡ broke_in at K
+  form_broke_lem : form_broke at (doc_here (drop at t)) b.one b.two b.four date p.dsn p.dcn e.facts ≡ broke_in at K
   unfolding broke_in
   form_broke_lem = λ i. broke_from (sight_is i) at 0 0 (record { bytes = (doc_here (drop at t)).main; bank = [] } ∷ items_are b (doc_here (drop at t)).others i)
 
@@ -246,7 +247,7 @@ module _ (t date : Bytes) (b : Blocks) (at room : ℕ) (p : Trail) (e : Extent) 
       ∙ (λ i. birth_byte (first_auth (cond (sym k i) d.others [])) (sym (searched_taxpayer b (ssn_of d)) i) (sym (searched_taxpayer b (spouse_of d)) i) (ee i).facts.pays)
 
   module _ (form : Bytes) (found : Findings) (own : Identity) (letter : Letter) (births : ℕ) (next : Trail) (x : List Broken) (ef : form ≡ (doc_here (drop at t)).main)
-      (e-own : own ≡ identity_of form) (e-found : held x found ≡ kept_of (form_broke at (doc_here (drop at t)) b.one b.two b.four date p e.facts))
+      (e-own : own ≡ identity_of form) (e-found : held x found ≡ kept_of (form_broke at (doc_here (drop at t)) b.one b.two b.four date p.dsn p.dcn e.facts))
       (e-letter : letter ≡ letter_by (eqb (length x) 0) (not (empty (line_in 9 (field L4868 90 form) b.three)) || member (field L4868 90 form) (numbers_in p.accepted)))
       (e-births : births ≡ form_births (doc_here (drop at t)) b.one e.facts) (e-past : next ≡ next_past room own letter p) where
     e_held : held x found ≡ kept_of (broke_in at K)

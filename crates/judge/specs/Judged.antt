@@ -1,5 +1,5 @@
 -- What the look-ups find on any bytes, and the judgment of a document in its turn. Assumes nothing.
-use Rattle.std.specs.Prelude.{ℕ, ◌+◌, cond, List, [], ◌∷◌, ◌++◌, map, eqb, length}
+use Rattle.std.specs.Prelude.{ℕ, ◌+◌, cond, List, [], ◌∷◌, ◌++◌, map, eqb, length, Option}
 use Rattle.paper.specs.declared.Broken.{Broken}
 use Rattle.paper.specs.declared.Facts.{Facts}
 use Rattle.paper.specs.declared.Identity.{Identity}
@@ -19,7 +19,6 @@ use Rattle.lookup.specs.Find.{line_in, rows_in}
 use Rattle.walk.specs.Parts.{sizes}
 use Rattle.rules.specs.declared.Before.{Before}
 use Rattle.judge.specs.Kept.{broke_if, counted}
-use Rattle.judge.specs.Seen.{Trail}
 
 -- a line, or none
 abbrev pub one_line : Bytes → List Bytes
@@ -55,15 +54,15 @@ broke_from s place pays aths (i ∷ is) =
     ++ broke_from s (place + length i.bytes) (pays + bit (of_kind Payment i.bytes)) (aths + bit (of_kind Auth i.bytes)) is
 
 -- what the rules of a 4868 document look at
-unfoldable pub sight_in : Bytes → Bytes → Bytes → Bytes → Trail → Facts → Sight
-sight_in form taxpayers states date p whole =
+unfoldable pub sight_in : Bytes → Bytes → Bytes → Bytes → Option ℕ → Option ℕ → Facts → Sight
+sight_in form taxpayers states date dsn dcn whole =
     sight form (line_in 33 (field L4868 90 form) taxpayers) (line_in 33 (field L4868 100 form) taxpayers)
-    (lines_in 8 (rows_in 8 (field L4868 60 form) states)) (earlier 16 p.dsn) (earlier 14 p.dcn) date whole
+    (lines_in 8 (rows_in 8 (field L4868 60 form) states)) (earlier 16 dsn) (earlier 14 dcn) date whole
 
 -- the records of a 4868 document at a place that break a rule
-abbrev pub form_broke : ℕ → Doc → Bytes → Bytes → Bytes → Bytes → Trail → Facts → List Broken
-form_broke at d taxpayers banks states date p whole =
-    broke_from (sight_in d.main taxpayers states date p whole) at 0 0 (record { bytes = d.main; bank = [] } ∷ map (item_in banks) d.others)
+abbrev pub form_broke : ℕ → Doc → Bytes → Bytes → Bytes → Bytes → Option ℕ → Option ℕ → Facts → List Broken
+form_broke at d taxpayers banks states date dsn dcn whole =
+    broke_from (sight_in d.main taxpayers states date dsn dcn whole) at 0 0 (record { bytes = d.main; bank = [] } ∷ map (item_in banks) d.others)
 
 -- field 0117 of a 4868 document
 abbrev pub form_births : Doc → Bytes → Facts → ℕ

@@ -95,11 +95,11 @@ fn collected(
 // THE EARLIER DOCUMENTS
 
 // An earlier document with this primary number got A.
-fn is_accepted<const N: usize>(ssn: Option<u64>, past: &Past<N>) -> bool
-    ensures { result ≡ some_among ssn past.now.accepted.items }
+fn is_accepted(ssn: Option<u64>, accepted: &[u64]) -> bool
+    ensures { result ≡ some_among ssn accepted.now }
 {
     match ssn {
-        Some(ssn) => past.accepted.as_slice().contains(&ssn),
+        Some(ssn) => accepted.contains(&ssn),
         None => false,
     }
 }
@@ -183,30 +183,39 @@ fn with_others(
 }
 
 // The records of a 4868 document that break a rule.
-fn of_form<const N: usize>(
+fn of_form(
     t: &[u8],
     at: usize,
     doc: Extent,
     form: &[u8],
     reference: Reference,
     date: &[u8],
-    past: &Past<N>,
+    dsn: Option<u64>,
+    dcn: Option<u64>,
     list: &mut ArrayVec<Broken, 96>,
 ) -> Formed
     requires { (doc ≡ extent_of (drop at t.now)) × (is Form (kind_of (doc_here (drop at t.now)).main) ≡ true) × (form.now ≡ (doc_here (drop at t.now)).main) × (list.old.items ≡ []) }
     ensures identity_value { result.identity ≡ identity_of form.now }
-    ensures found_after { held list.new.items result.found ≡ kept_of (form_broke at (doc_here (drop at t.now)) reference.entry.taxpayers.now reference.entry.banks.now reference.entry.states.now date.now (trail past.now) doc.facts) }
+    ensures found_after { held list.new.items result.found ≡ kept_of (form_broke at (doc_here (drop at t.now)) reference.entry.taxpayers.now reference.entry.banks.now reference.entry.states.now date.now dsn dcn doc.facts) }
     ensures births_value { result.births ≡ form_births (doc_here (drop at t.now)) reference.entry.taxpayers.now doc.facts }
 {
     let taxpayers = reference.taxpayers;
     let payer = lookup::line_of(taxpayers, 33, field_of(L4868, 90, form));
     let spouse = lookup::line_of(taxpayers, 33, field_of(L4868, 100, form));
     let zips = lookup::rows_of(reference.states, 8, field_of(L4868, 60, form));
-    let reading = form::broken(
-        form, payer, spouse, zips, past.dsn, past.dcn, date, doc.facts,
-    );
+    let reading = form::broken(form, payer, spouse, zips, dsn, dcn, date, doc.facts);
     let first = collected(NO_FINDINGS, at, Kind::Form, reading.set, list);
-    let found = with_others(t, at, doc, form, payer, spouse, reference.banks, first, list);
+    let found = with_others(
+        t,
+        at,
+        doc,
+        form,
+        payer,
+        spouse,
+        reference.banks,
+        first,
+        list,
+    );
     let births = births::birth_byte(t, at + form.len(), payer, spouse, doc.facts.pays);
     Formed {
         found,
@@ -220,7 +229,13 @@ fn of_other(at: usize, kind: Kind, list: &mut ArrayVec<Broken, 96>) -> Findings
     requires { (is Form kind ≡ false) × (list.old.items ≡ []) }
     ensures { held list.new.items result ≡ kept_of (broke_if at kind (bit (is Kind.Unknown kind))) }
 {
-    collected(NO_FINDINGS, at, kind, u64::from(kind == Kind::Unknown), list)
+    collected(
+        NO_FINDINGS,
+        at,
+        kind,
+        u64::from(kind == Kind::Unknown),
+        list,
+    )
 }
 
 // The letter by whether there is no finding, alone.
@@ -230,15 +245,9 @@ fn letter_by(clean: bool) -> Letter
     if clean { Letter::A } else { Letter::R }
 }
 
-fn letter_of<const N: usize>(
-    clean: bool,
-    identity: Identity,
-    filed: &[u8],
-    form: &[u8],
-    past: &Past<N>,
-) -> Letter
+fn letter_of(clean: bool, identity: Identity, filed: &[u8], form: &[u8], accepted: &[u64]) -> Letter
     requires { (identity ≡ identity_of form.now) × (length form.now ≡ 384) }
-    ensures { result ≡ letter_by clean (not (empty (line_in 9 (field L4868 90 form.now) filed.now)) || member (field L4868 90 form.now) (numbers_in past.now.accepted.items)) }
+    ensures { result ≡ letter_by clean (not (empty (line_in 9 (field L4868 90 form.now) filed.now)) || member (field L4868 90 form.now) (numbers_in accepted.now)) }
 {
     if !clean {
         return Letter::R;
@@ -246,7 +255,7 @@ fn letter_of<const N: usize>(
     if 0 < lookup::line_of(filed, 9, field_of(L4868, 90, form)).len() {
         return Letter::D;
     }
-    if is_accepted(identity.ssn, past) {
+    if is_accepted(identity.ssn, accepted) {
         return Letter::D;
     }
     Letter::A
@@ -283,9 +292,15 @@ pub fn judge<const N: usize>(
     }
     let end = at + doc.first.size;
     let form = &t[at..end];
-    let formed = of_form(t, at, doc, form, reference, date, past, list);
-    let births = formed.births;
-    let letter = letter_of(list.is_empty(), formed.identity, reference.filed, form, past);
+    let formed = of_form(t, at, doc, form, reference, date, past.dsn, past.dcn, list);
+    let accepted = past.accepted.as_slice();
+    let letter = letter_of(
+        list.is_empty(),
+        formed.identity,
+        reference.filed,
+        form,
+        accepted,
+    );
     pass(formed.identity, letter, past);
     Judgment {
         size: doc.size,
@@ -294,6 +309,6 @@ pub fn judge<const N: usize>(
         identity: formed.identity,
         found: formed.found,
         facts: doc.facts,
-        births,
+        births: formed.births,
     }
 }

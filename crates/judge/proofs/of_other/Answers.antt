@@ -1,9 +1,8 @@
-use Rattle.std.proofs.Common.{◌≡◌, ℕ, List, [], rules, ap, ◌∙◌}
-use Rattle.paper.specs.declared.Broken.{Broken}
+use Rattle.std.proofs.Common.{◌≡◌, rules, ◌∙◌}
 use Rattle.paper.specs.declared.Kind.TheVariants.{Unknown}
 use Rattle.paper.specs.Bytes.{bit}
 use Rattle.paper.specs.Walk.{is}
-use Rattle.judge.specs.Kept.{broke_if, held, kept_of, added, no_findings}
+use Rattle.judge.specs.Kept.{broke_if, held, added, no_findings}
 use Rattle.judge.proofs.Kept.{added_none}
 use Rattle.judge.proofs.of_other.Goals as goal
 
