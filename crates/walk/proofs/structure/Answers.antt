@@ -1,5 +1,5 @@
 use Rattle.std.proofs.Common.{rules, tests, arith}
-use Rattle.walk.proofs.Laws.{tail}
+use Rattle.std.proofs.lemmas.List.{take_rest}
 use Rattle.walk.proofs.Loops.{stepped, shorter, other_step, scan_no, scan_on, scan_end}
 use Rattle.walk.proofs.structure.Goals as goal
 
@@ -18,7 +18,7 @@ loop-rest-smaller c = shorter _ _ (stepped _ c.in-Record.record _ c.step_in.ensu
 pub loop-rest-preserved : goal.loop-rest-preserved
 loop-rest-preserved c =
     let h = stepped _ c.in-Record.record _ c.step_in.ensures c.in-Record.is in
-    rw tail (scan_on _ _ _ _ c.loop-rest.invariant _ _ _ _ h c.next-order.ensures c.opens.ensures (search rules))
+    rw take_rest (scan_on _ _ _ _ c.loop-rest.invariant _ _ _ _ h c.next-order.ensures c.opens.ensures (search rules))
 
 pub returns : goal.returns
 returns c = scan_end _ _ _ _ c.loop-rest.invariant _ (grind (arith, tests)) c.conclude.ensures
