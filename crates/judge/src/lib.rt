@@ -11,7 +11,7 @@ ghost use Rattle.paper.specs.Walk.{is, kind_of};
 ghost use Rattle.paper.specs.Conditions.{sight};
 ghost use Rattle.paper.specs.Judge.{letter_by, turn, asked};
 ghost use Rattle.lookup.specs.Find.{line_in};
-ghost use Rattle.walk.specs.Parts.{doc_here, extent_of};
+ghost use Rattle.walk.specs.Parts.{doc_here};
 ghost use Rattle.judge.specs.Kept.{broke_if, held, listed, kept_of, added};
 ghost use Rattle.words.specs.Past.{identity_of};
 ghost use Rattle.judge.specs.Seen.{trail, numbers_in, some_among, seen_by, no_past, number_after, next_past, past_after};
@@ -20,9 +20,8 @@ ghost use Rattle.judge.specs.Judged.{searched, bank_for, item_in, broke_from, fo
 use arrayvec::ArrayVec;
 use layout::field_of;
 use paper::Layout::{L4868, LPayment};
-use paper::{Broken, Findings, Identity, Judgment, Kind, Letter, Reference};
+use paper::{Broken, Facts, Findings, Identity, Judgment, Kind, Letter, Reference};
 use rules::Before;
-use walk::Extent;
 
 // What the earlier documents leave: the nearest 0007 and 0008 that are digits, and the primary numbers of those that got A.
 #[derive(Drop)]
@@ -152,7 +151,7 @@ fn counted(b: Before, kind: Kind) -> Before
 fn with_others(
     t: &[u8],
     at: usize,
-    doc: Extent,
+    facts: Facts,
     form: &[u8],
     payer: &[u8],
     spouse: &[u8],
@@ -160,24 +159,21 @@ fn with_others(
     first: Findings,
     list: &mut ArrayVec<Broken, 96>,
 ) -> Findings
-    requires { (doc ≡ extent_of (drop at t.now)) × (is Form (kind_of (doc_here (drop at t.now)).main) ≡ true) × (form.now ≡ (doc_here (drop at t.now)).main) × (length list.old.items ≤ 96) × (first.kept ≤ 96) }
-    ensures { held list.new.items result ≡ added (held list.old.items first) (broke_from (sight form.now payer.now spouse.now [] [] [] [] doc.facts) (at + length form.now) 0 0 (map (item_in banks.now) (doc_here (drop at t.now)).others)) }
+    requires { (is Form (kind_of (doc_here (drop at t.now)).main) ≡ true) × (form.now ≡ (doc_here (drop at t.now)).main) × (length list.old.items ≤ 96) × (first.kept ≤ 96) }
+    ensures { held list.new.items result ≡ added (held list.old.items first) (broke_from (sight form.now payer.now spouse.now [] [] [] [] facts) (at + length form.now) 0 0 (map (item_in banks.now) (doc_here (drop at t.now)).others)) }
 {
-    let facts = doc.facts;
-    let end = at + doc.size;
     let mut found = first;
     let mut before = Before { pays: 0, aths: 0 };
     let mut to = at + form.len();
-    while to < end {
-        let head = walk::head_at(t, to);
-        let kind = head.kind;
-        let next = to + head.size;
-        let own = &t[to..next];
-        let bank = bank_of(banks, kind, own);
-        let set = rules::others(kind, form, own, payer, spouse, bank, facts, before);
-        found = collected(found, to, kind, set, list);
-        before = counted(before, kind);
-        to = next;
+    for record in walk::others_from(t, to) {
+        let own = record.bytes;
+        let bank = bank_of(banks, record.kind, own);
+        let set = rules::others(
+            record.kind, form, own, payer, spouse, bank, facts, before,
+        );
+        found = collected(found, to, record.kind, set, list);
+        before = counted(before, record.kind);
+        to += own.len();
     }
     found
 }
@@ -186,7 +182,7 @@ fn with_others(
 fn of_form(
     t: &[u8],
     at: usize,
-    doc: Extent,
+    facts: Facts,
     form: &[u8],
     reference: Reference,
     date: &[u8],
@@ -194,10 +190,10 @@ fn of_form(
     dcn: Option<u64>,
     list: &mut ArrayVec<Broken, 96>,
 ) -> Formed
-    requires { (doc ≡ extent_of (drop at t.now)) × (is Form (kind_of (doc_here (drop at t.now)).main) ≡ true) × (form.now ≡ (doc_here (drop at t.now)).main) × (list.old.items ≡ []) }
+    requires { (is Form (kind_of (doc_here (drop at t.now)).main) ≡ true) × (form.now ≡ (doc_here (drop at t.now)).main) × (list.old.items ≡ []) }
     ensures identity_value { result.identity ≡ identity_of form.now }
-    ensures found_after { held list.new.items result.found ≡ kept_of (form_broke at (doc_here (drop at t.now)) reference.entry.taxpayers.now reference.entry.banks.now reference.entry.states.now date.now dsn dcn doc.facts) }
-    ensures births_value { result.births ≡ form_births (doc_here (drop at t.now)) reference.entry.taxpayers.now doc.facts }
+    ensures found_after { held list.new.items result.found ≡ kept_of (form_broke at (doc_here (drop at t.now)) reference.entry.taxpayers.now reference.entry.banks.now reference.entry.states.now date.now dsn dcn facts) }
+    ensures births_value { result.births ≡ form_births (doc_here (drop at t.now)) reference.entry.taxpayers.now facts }
 {
     let taxpayers = reference.taxpayers;
     let payer = lookup::line_of(taxpayers, 33, field_of(L4868, 90, form));
@@ -216,7 +212,7 @@ fn of_form(
         first,
         list,
     );
-    let births = births::birth_byte(t, at + form.len(), payer, spouse, doc.facts.pays);
+    let births = births::birth_byte(t, at + form.len(), payer, spouse, facts.pays);
     Formed {
         found,
         identity: reading.identity,
@@ -292,7 +288,7 @@ pub fn judge<const N: usize>(
     }
     let end = at + doc.first.size;
     let form = &t[at..end];
-    let formed = of_form(t, at, doc, form, reference, date, past.dsn, past.dcn, list);
+    let formed = of_form(t, at, doc.facts, form, reference, date, past.dsn, past.dcn, list);
     let accepted = past.accepted.as_slice();
     let letter = letter_of(
         list.is_empty(),

@@ -42,7 +42,7 @@ of_form-formed-requires g c =
     let d = c.document-doc in
     let h : is Form d.result.first.kind ≡ true = search rules in
     let k = known_as a.t.now a.at d.result d.ensures true true (sym h) refl in
-    (d.ensures, k, (first_part a.t.now a.at d.result d.ensures k).1, c.clear.ensures)
+    (k, (first_part a.t.now a.at d.result d.ensures k).1, c.clear.ensures)
 
 pub letter_of-letter-requires : goal.letter_of-letter-requires
 letter_of-letter-requires g c =
@@ -50,7 +50,7 @@ letter_of-letter-requires g c =
     let d = c.document-doc in
     let h : is Form d.result.first.kind ≡ true = search rules in
     let k = known_as a.t.now a.at d.result d.ensures true true (sym h) refl in
-    (c.of_form-formed.ensures.identity_value, form_size a.t.now a.at d.result _ d.ensures k (first_part a.t.now a.at d.result d.ensures k).1)
+    (c.of_form-formed.ensures.identity_value, form_size a.t.now a.at _ k (first_part a.t.now a.at d.result d.ensures k).1)
 
 pub returns : goal.returns
 returns g c =
