@@ -199,12 +199,12 @@ fn of_form(
     let payer = lookup::line_of(taxpayers, 33, field_of(L4868, 90, form));
     let spouse = lookup::line_of(taxpayers, 33, field_of(L4868, 100, form));
     let zips = lookup::rows_of(reference.states, 8, field_of(L4868, 60, form));
-    let reading = form::broken(form, payer, spouse, zips, dsn, dcn, date, doc.facts);
+    let reading = form::broken(form, payer, spouse, zips, dsn, dcn, date, facts);
     let first = collected(NO_FINDINGS, at, Kind::Form, reading.set, list);
     let found = with_others(
         t,
         at,
-        doc,
+        facts,
         form,
         payer,
         spouse,
