@@ -1,24 +1,21 @@
--- The fields in reserve, where the bytes that hold them are blank: none of their rules is broken. A time by its digits.
--- Assumes nothing.
+-- The fields in reserve, where the bytes that hold them are blank: none of their rules is broken. Assumes nothing.
 use Prim.Native.Nat.{ℕ, zero, suc, ◌+◌, ◌*◌, ◌/◌, ◌%◌, ◌^◌, ◌≤◌, ◌<◌}
-use mathlib.Core.Bool.{Bool, true, false, not, ◌&&◌, ◌||◌, and_assoc}
+use mathlib.Core.Bool.{Bool, true, false, ◌&&◌}
 use mathlib.Core.List.{List, [], ◌∷◌}
 use mathlib.Core.Path.{◌≡◌, refl, sym, ap, ◌∙◌}
-use native.Mathlib.Nat.{mul_assoc, mul-mod_left, mod-eq_of_lt, pow-suc}
+use native.Mathlib.Nat.{mul_assoc, mod-eq_of_lt, pow-suc}
 use native.Mathlib.Omega.{arith}
 use lib.Dec.{eqb, leb}
 use lib.ListN.{length, take, drop}
-use lib.Pow.{mod-pow-add, mod-mod-pow, shl-shr}
 use lib.Seq.{take-nil, drop-nil}
 use borrow.Author.Tests.{eqb-true, leb-true}
+use Rattle.std.proofs.lemmas.Nat.{mul-mod_first}
 use Rattle.paper.specs.declared.Layout.TheVariants.{LSummary}
-use Rattle.paper.specs.Bytes.{Bytes, every, part, is_space, blank, present, digits, number}
-use Rattle.paper.specs.Fields.{hhmm}
+use Rattle.paper.specs.Bytes.{Bytes, every, part, is_space, blank}
 use Rattle.paper.specs.Layouts.{entry, field, through, summary}
-use Rattle.paper.specs.Conditions.{not_time, summary_holds, summary_rules, pick}
+use Rattle.paper.specs.Conditions.{summary_holds, summary_rules, pick}
 use Rattle.paper.proofs.Laws.{both}
 use Rattle.words.specs.Sets.{bit_on, bits_on}
-use Rattle.words.proofs.Told.{not_both}
 
 -- what every byte of a part passes, every byte of a part of it does
 part_every : (p : ℕ → Bool) (a w b v : ℕ) (s : Bytes) → a ≤ b → b + v ≤ a + w → every p (part a w s) ≡ true → every p (part b v s) ≡ true
@@ -57,39 +54,27 @@ inside_kept own h rule e =
     let k : f.start + f.width ≤ 274 = leb-true (f.start + f.width) 274 b.1 in
     rw (eqb-true (rule % 10000) 14 a.0, part_every is_space 114 160 f.start f.width own g k h)
 
--- a rule that is not broken before a set that starts with n of them
-kept_on : (a j n : ℕ) → j + n ≡ 63 → bit_on false (a * 2 ^ n) ≡ a % 2 ^ j * 2 ^ suc n
+-- a rule that is not broken moves a set by one place
+kept_on : (t : ℕ) → bit_on false t ≡ t * 2 % 18446744073709551616
 unfolding bit_on
-kept_on a j n e =
-    let low : a * 2 ^ n % 2 ^ 63 ≡ a % 2 ^ j * 2 ^ n + 0 =
-    ap (λ (k : ℕ). a * 2 ^ n % 2 ^ k) (sym e) ∙ mod-pow-add (a * 2 ^ n) j n ∙ (λ i. shl-shr a n i % 2 ^ j * 2 ^ n + mul-mod_left a (2 ^ n) i) in
-    let twice : a % 2 ^ j * 2 ^ suc n ≡ a % 2 ^ j * 2 ^ n * 2 = ap (λ (k : ℕ). a % 2 ^ j * k) (pow-suc 2 n) ∙ sym (mul_assoc (a % 2 ^ j) (2 ^ n) 2) in
-    omega arith
+kept_on t = omega arith
 
--- a set that starts with rules that are not broken
+-- and rules that are not broken move it by as many places
 module _ (p q : ℕ → Bool) (kept : (x : ℕ) → q x ≡ true → p x ≡ false) where
-  bits_kept : (s : List ℕ) (j later : ℕ) → every q s ≡ true → later < 2 ^ 64 → j + length s ≡ 64 → bits_on p s later ≡ later % 2 ^ j * 2 ^ length s
-  bits_kept [] j later h l e = let i : j ≡ 64 = omega arith in rw i (omega (arith, mod-eq_of_lt l))
-  bits_kept (x ∷ s) j later h l e =
+  bits_kept : (s : List ℕ) (later : ℕ) → every q s ≡ true → later < 18446744073709551616 → bits_on p s later ≡ later * 2 ^ length s % 18446744073709551616
+  bits_kept [] later h l = sym (mod-eq_of_lt l) ∙ ap (λ (k : ℕ). k % 18446744073709551616) (omega arith)
+  bits_kept (x ∷ s) later h l =
       let b = both (q x) (every q s) h in
-      (λ i. bit_on (kept x b.0 i) (bits_kept s (1 + j) later b.1 l (omega arith) i))
-      ∙ kept_on (later % 2 ^ (1 + j)) j (length s) (omega arith)
-      ∙ ap (λ (k : ℕ). k * 2 ^ suc (length s)) (mod-mod-pow later 1 j)
+      let t = later * 2 ^ length s in
+      (λ i. bit_on (kept x b.0 i) (bits_kept s later b.1 l i))
+      ∙ kept_on (t % 18446744073709551616)
+      ∙ mul-mod_first t 2 18446744073709551616
+      ∙ ap (λ (k : ℕ). k % 18446744073709551616) (mul_assoc later (2 ^ length s) 2 ∙ ap (λ (k : ℕ). later * k) (sym (pow-suc 2 (length s))))
 
 -- the 21 rules on 0100 to 0220 before a set, where t, the bytes that hold the fields, is blank
-pub reserves_kept : (own t : Bytes) (set later : ℕ) → t ≡ through LSummary 100 220 own → blank t ≡ true → set < 2 ^ 64 → set ≡ later
-    → set % 8796093022208 * 2097152 ≡ bits_on (breaks own) (take 21 (drop 14 summary_rules)) later
+pub reserves_kept : (own t : Bytes) (set later : ℕ) → t ≡ through LSummary 100 220 own → blank t ≡ true → set < 18446744073709551616 → set ≡ later
+    → set * 2097152 % 18446744073709551616 ≡ bits_on (breaks own) (take 21 (drop 14 summary_rules)) later
 unfolding summary_rules entry summary
 reserves_kept own t set later u h l e =
-    sym (bits_kept (breaks own) inside (inside_kept own (rw (← stretch own, ← u) h)) (take 21 (drop 14 summary_rules)) 43 set refl l refl)
+    sym (bits_kept (breaks own) inside (inside_kept own (rw (← stretch own, ← u) h)) (take 21 (drop 14 summary_rules)) set refl l)
     ∙ ap (bits_on (breaks own) (take 21 (drop 14 summary_rules))) e
-
--- a time that is present; n says whether it is not digits
-pub time_told : (f : Bytes) (b n : Bool) → b ≡ blank f → b ≡ false → n ≡ (present f && not (digits f)) → (n || not (leb (number (take 2 f)) 23 && leb (number (part 2 2 f)) 59)) ≡ not_time f
-unfolding not_time hhmm
-time_told f b n e h g =
-    let p : present f ≡ true = ap not (sym e ∙ h) in
-    let a = leb (number (take 2 f)) 23 in
-    let c = leb (number (part 2 2 f)) 59 in
-    ap (λ (x : Bool). x || not (a && c)) (g ∙ ap (λ (x : Bool). x && not (digits f)) p) ∙ not_both (digits f) (a && c)
-    ∙ ap not (sym (and_assoc (digits f) a c)) ∙ ap (λ (x : Bool). x && not (digits f && a && c)) (sym p)

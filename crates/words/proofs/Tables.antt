@@ -1,20 +1,29 @@
 -- The rules of a table: a place that is none of its, and its set from the sets of its parts. Assumes nothing.
-use Prim.Native.Nat.{ℕ, zero, suc, ◌≤◌}
+use Prim.Native.Nat.{ℕ, zero, suc, ◌+◌, ◌*◌, ◌%◌, ◌^◌, ◌≤◌}
 use mathlib.Core.Bool.{Bool, true, false}
 use mathlib.Core.List.{List, [], ◌∷◌}
 use mathlib.Core.Path.{◌≡◌, refl, ap, ◌∙◌}
 use native.Mathlib.Omega.{arith}
 use lib.ListN.{length, take, drop, get_or, get_or-eq_default}
 use Rattle.std.proofs.Common.{fold, reverse}
+use Rattle.std.proofs.lemmas.Nat.{or_shifted}
 use Rattle.std.proofs.lemmas.List.{reverse-append}
 use Rattle.std.proofs.lemmas.List.Sums.{fold_push}
 use Rattle.std.specs.Int.{from_bool}
+use Rattle.std.specs.Int.RustNames.{bit_or}
 use Rattle.paper.specs.Bytes.{bit}
 use Rattle.words.specs.Sets.{bit_on, bits_on, bits_by}
 
-pub bit_from : (b : Bool) → from_bool b ≡ bit b
-bit_from true = refl
-bit_from false = refl
+-- the bits of a set move by one place, and the lowest is free for a rule
+pub bit_first : (b : Bool) (t : ℕ) → bit_or (t * 2 % 18446744073709551616) (from_bool b) ≡ bit_on b t
+unfolding bit_on
+bit_first b t =
+    let e : t * 2 % 18446744073709551616 ≡ t % 9223372036854775808 * 2 ^ 1 = omega arith in
+    ap (λ (n : ℕ). bit_or n (from_bool b)) e ∙ by b
+  where
+    by : (b : Bool) → bit_or (t % 9223372036854775808 * 2 ^ 1) (from_bool b) ≡ t % 9223372036854775808 * 2 + bit b
+    by true = or_shifted (t % 9223372036854775808) 1 1 (omega arith)
+    by false = or_shifted (t % 9223372036854775808) 1 0 (omega arith)
 
 -- none of the first n places
 abbrev Past : ℕ → ℕ → Type 0

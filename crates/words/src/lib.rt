@@ -135,11 +135,11 @@ pub fn wrong_pay_date(is_digits: bool, abroad: bool, f: &[u8]) -> bool
 }
 
 // A rule before the later ones of a set.
-#[tactic(auto, unfolding(crate::specs::Sets::bit_on), using(crate::proofs::Tables::bit_from))]
+#[tactic(auto, using(crate::proofs::Tables::bit_first))]
 pub fn and_rule(is_broken: bool, later: u64) -> u64
     ensures { result ≡ bit_on is_broken later }
 {
-    later % 9223372036854775808 * 2 + u64::from(is_broken)
+    later << 1 | u64::from(is_broken)
 }
 
 // The text of the rule at a place of a table, its field and its code: eight digits as one number, the first one lowest; zeros past the end.
