@@ -168,9 +168,7 @@ fn with_others(
     for record in walk::others_from(t, to) {
         let own = record.bytes;
         let bank = bank_of(banks, record.kind, own);
-        let set = rules::others(
-            record.kind, form, own, payer, spouse, bank, facts, before,
-        );
+        let set = rules::others(record.kind, form, own, payer, spouse, bank, facts, before);
         found = collected(found, to, record.kind, set, list);
         before = counted(before, record.kind);
         to += own.len();
@@ -288,7 +286,9 @@ pub fn judge<const N: usize>(
     }
     let end = at + doc.first.size;
     let form = &t[at..end];
-    let formed = of_form(t, at, doc.facts, form, reference, date, past.dsn, past.dcn, list);
+    let formed = of_form(
+        t, at, doc.facts, form, reference, date, past.dsn, past.dcn, list,
+    );
     let accepted = past.accepted.as_slice();
     let letter = letter_of(
         list.is_empty(),
