@@ -7,8 +7,9 @@ use native.Mathlib.Omega.{arith}
 use lib.Dec.{eqb, leb, ltb}
 use lib.ListN.{length, take, drop, length-take, length-drop}
 use lib.Seq.{take_all}
-use borrow.Author.Tests.{ne_eqb, le-leb, lt-leb, ltb-true, ltb-false}
+use borrow.Author.Tests.{ne_eqb}
 use Rattle.std.proofs.Common.{Option, Some, None}
+use Rattle.std.proofs.lemmas.Bool.Decides.{nat_tests}
 use Rattle.paper.specs.declared.Layout.TheVariants.{L4868}
 use Rattle.paper.specs.Bytes.{Bytes, empty, same, part, before, digits, number, written}
 use Rattle.paper.specs.Layouts.{form4868, entry, field}
@@ -42,11 +43,7 @@ none_earlier [] h = absurd (omega arith)
 none_earlier (x ∷ f) h = sym (and-false (digits (x ∷ f)))
 
 not_ltb : (a b : ℕ) → leb a b ≡ not (ltb b a)
-not_ltb a b = go (ltb b a) refl
-  where
-    go : (q : Bool) → ltb b a ≡ q → leb a b ≡ not q
-    go true e = lt-leb a b (ltb-true b a e)
-    go false e = le-leb a b (ltb-false b a e)
+not_ltb a b = grind (arith, nat_tests)
 
 -- digits as wide as the earlier number's are not above it exactly if the number that they write is not
 not_above_number : (f : Bytes) (past : ℕ) → length f ≤ 16 → (digits f && leb (number (take 16 f)) (past % 10 ^ length f)) ≡ not_above f (written (length f) past)

@@ -263,7 +263,6 @@ fn of_payers(form: &[u8], told: Told, later: u64) -> u64
 }
 
 // Each of these fields that is present but not digits, before later rules.
-#[tactic(auto, using(words::proofs::Tables::fold_bits))]
 fn and_not_digits(fields: &[u32], form: &[u8], later: u64) -> u64
     ensures { result ≡ bits_on (λ n. not_digits (field L4868 n form.now)) fields.now later }
 {

@@ -3,26 +3,14 @@
 #![tactic(auto)]
 
 ghost use Rattle.std.specs.Prelude.{◌≡◌, get_or};
-ghost use Rattle.paper.specs.Conditions.{unknown_rules, rules_of};
+ghost use Rattle.paper.specs.Conditions.{rules_of};
 ghost use Rattle.text.specs.Words.{little};
 ghost use Rattle.words.specs.Tables.{rule_text};
 ghost use Rattle.rules.specs.Sets.{others_of};
 
 use paper::{Facts, Kind};
 
-// Of an FRM of an unknown form: the text of its one rule.
-#[tactic(auto, unfolding(words::specs::Tables::rule_text))]
-fn unknown_at(i: usize) -> u64
-    ensures { result ≡ little (rule_text (get_or unknown_rules i 0)) }
-{
-    match i {
-        0 => 0x34343030_30303030, // 0000 0044
-        _ => 0x30303030_30303030,
-    }
-}
-
 // The text of the rule at a place of a kind's table, its field and its code: eight bytes, the first one lowest.
-#[tactic(auto, unfolding(words::specs::Tables::rule_text))]
 pub fn text_at(kind: Kind, i: usize) -> u64
     ensures { result ≡ little (rule_text (get_or (rules_of kind) i 0)) }
 {
@@ -31,11 +19,8 @@ pub fn text_at(kind: Kind, i: usize) -> u64
         Kind::Payment => payment::text_at(i),
         Kind::Auth => auth::text_at(i),
         Kind::Summary => summary::text_at(i),
-        Kind::Unknown => unknown_at(i),
-        Kind::TranA => 0x30303030_30303030,
-        Kind::TranB => 0x30303030_30303030,
-        Kind::Recap => 0x30303030_30303030,
-        Kind::Stray => 0x30303030_30303030,
+        Kind::Unknown => words::text_at(&[0_0044], i),
+        Kind::TranA | Kind::TranB | Kind::Recap | Kind::Stray => words::text_at(&[], i),
     }
 }
 
@@ -65,11 +50,6 @@ pub fn others(
         Kind::Payment => payment::broken(form, own, bank, before.pays),
         Kind::Auth => auth::broken(form, own, payer, spouse, whole, before.aths),
         Kind::Summary => summary::broken(form, own),
-        Kind::Form => 0,
-        Kind::Unknown => 0,
-        Kind::TranA => 0,
-        Kind::TranB => 0,
-        Kind::Recap => 0,
-        Kind::Stray => 0,
+        Kind::Form | Kind::Unknown | Kind::TranA | Kind::TranB | Kind::Recap | Kind::Stray => 0,
     }
 }

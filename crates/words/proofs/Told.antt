@@ -17,7 +17,7 @@ same_or_neither true false = refl
 same_or_neither false true = refl
 same_or_neither false false = refl
 
-pub not_both : (a b : Bool) → (not a || not b) ≡ not (a && b)
+not_both : (a b : Bool) → (not a || not b) ≡ not (a && b)
 not_both true b = refl
 not_both false b = refl
 
