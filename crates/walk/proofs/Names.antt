@@ -1,6 +1,7 @@
 -- The names of records as numbers. Assumes nothing.
 use Prim.{tt}
-use Prim.Native.Nat.{ℕ, suc, ◌+◌, ◌*◌, ◌%◌, ◌^◌, ◌≤◌, ◌<◌}
+use Prim.Native.Nat.{ℕ, suc, ◌+◌, ◌-◌, ◌*◌, ◌%◌, ◌^◌, ◌≤◌, ◌<◌}
+use mathlib.Core.List.{[], ◌∷◌}
 use mathlib.Core.Path.{◌≡◌, refl, sym, ap, ◌∙◌}
 use mathlib.Core.Bool.{Bool, true, false, cond}
 use native.Mathlib.Nat.{add_comm}
@@ -8,12 +9,12 @@ use native.Mathlib.Omega.{arith}
 use borrow.Author.Tests.{eqb-true, eqb-false, ne_eqb}
 use lib.Arith.{digits_mod}
 use lib.Dec.{eqb, lit≤}
-use lib.ListN.{length, take, drop, length-take}
+use lib.ListN.{length, get_or, take, drop, length-take}
 use lib.Seq.{take-take}
 use Rattle.paper.specs.declared.Kind.{Kind}
 use Rattle.paper.specs.declared.Kind.TheVariants.{TranA, TranB, Form, Unknown, Payment, Auth, Summary, Recap, Stray}
-use Rattle.paper.specs.Bytes.{Bytes, bytes, every, same, part}
-use Rattle.paper.specs.Walk.{named_form, named}
+use Rattle.paper.specs.Bytes.{Bytes, bytes, every, same, part, number}
+use Rattle.paper.specs.Walk.{count_of, named_form, named}
 use Rattle.paper.proofs.Laws.{both, same_eq}
 use Rattle.text.specs.Words.{is_byte, little}
 use Rattle.text.proofs.Words.{little_split, little_lt, every_split, same_little}
@@ -92,6 +93,15 @@ named_by r n e h =
       by_number r 8 n e h (bytes "TRANA ") refl refl (lit≤ tt),
       by_number r 8 n e h (bytes "TRANB ") refl refl (lit≤ tt),
     )
+
+-- the four digits of a count
+pub count_told : (s : Bytes) (n : ℕ) → 4 ≤ length s → n ≡ (get_or s 0 0 - 48) * 1000 + (get_or s 1 0 - 48) * 100 + (get_or s 2 0 - 48) * 10 + (get_or s 3 0 - 48) → n ≡ count_of s
+unfolding count_of number
+count_told (x ∷ y ∷ z ∷ u ∷ s) n l e = omega (arith, e)
+count_told [] n l e = absurd (omega (arith, l))
+count_told (x ∷ []) n l e = absurd (omega (arith, l))
+count_told (x ∷ y ∷ []) n l e = absurd (omega (arith, l))
+count_told (x ∷ y ∷ z ∷ []) n l e = absurd (omega (arith, l))
 
 -- "****"
 pub stars_told : (s : Bytes) (w : ℕ) → w ≡ little (part 4 8 s) → every is_byte (part 4 8 s) ≡ true → same (part 4 4 s) (bytes "****") ≡ eqb (w % 4294967296) 707406378
