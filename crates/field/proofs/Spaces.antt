@@ -2,8 +2,9 @@
 use mathlib.Core.Path.{◌≡◌, refl, sym, ap, ◌∙◌}
 use mathlib.Core.Bool.{Bool, true, false, not, cond, ◌&&◌, ◌||◌, and-true, and-false, or-false, or_assoc}
 use mathlib.Core.List.{[], ◌∷◌}
-use Prim.Native.Nat.{ℕ, suc, ◌+◌, ◌-◌, ◌≤◌, ◌<◌}
+use Prim.Native.Nat.{ℕ, ◌+◌, ◌-◌, ◌≤◌, ◌<◌}
 use native.Mathlib.Omega.{arith}
+use native.Mathlib.Numerals.{one-add}
 use borrow.Author.Tests.{not-true, not-false, eqb-true}
 use lib.ListN.{length, get_or, take, drop, length-drop}
 use Rattle.paper.specs.Bytes.{Bytes, every, any, is_space, blank, all_zeros}
@@ -169,8 +170,8 @@ module _ (p : ℕ → Bool) (no : p 32 ≡ false) where
   front_passes [] = refl
   front_passes (x ∷ s) = go (p x) refl (front_passes s)
     where
-      go : (b : Bool) → p x ≡ b → every p (take (first_not p s) s) ≡ true → every p (take (cond b (suc (first_not p s)) 0) (x ∷ s)) ≡ true
-      go true e h = ap (λ (c : Bool). c && every p (take (first_not p s) s)) e ∙ h
+      go : (b : Bool) → p x ≡ b → every p (take (first_not p s) s) ≡ true → every p (take (cond b (1 + first_not p s) 0) (x ∷ s)) ≡ true
+      go true e h = simp (one-add) (ap (λ (c : Bool). c && every p (take (first_not p s) s)) e ∙ h)
       go false e h = refl
 
   -- only blanks after them: they are what is left without the spaces at the end
@@ -186,9 +187,9 @@ module _ (p : ℕ → Bool) (no : p 32 ≡ false) where
       keep [] e = ap (λ (b : Bool). cond b [] (x ∷ [])) e
       keep (y ∷ t) e = refl
 
-      go : (b : Bool) → p x ≡ b → blank (drop (cond b (suc (first_not p s)) 0) (x ∷ s)) ≡ true → (blank (drop (first_not p s) s) ≡ true → trim s ≡ take (first_not p s) s)
-          → trim (x ∷ s) ≡ take (cond b (suc (first_not p s)) 0) (x ∷ s)
-      go true e h r = ap (cons_trim x) (r h) ∙ keep (take (first_not p s) s) (not_space (is_space x) refl e)
+      go : (b : Bool) → p x ≡ b → blank (drop (cond b (1 + first_not p s) 0) (x ∷ s)) ≡ true → (blank (drop (first_not p s) s) ≡ true → trim s ≡ take (first_not p s) s)
+          → trim (x ∷ s) ≡ take (cond b (1 + first_not p s) 0) (x ∷ s)
+      go true e h r = simp (one-add) (ap (cons_trim x) (r (simp (one-add) at h)) ∙ keep (take (first_not p s) s) (not_space (is_space x) refl e))
       go false e h r = trim_blank (x ∷ s) h
 
   -- else what is left has one that does not pass
@@ -196,10 +197,10 @@ module _ (p : ℕ → Bool) (no : p 32 ≡ false) where
   front_fails [] h = absurd (never (sym h))
   front_fails (x ∷ s) h = go (p x) refl (trim s) refl h (front_fails s)
     where
-      go : (b : Bool) → p x ≡ b → (t : Bytes) → trim s ≡ t → blank (drop (cond b (suc (first_not p s)) 0) (x ∷ s)) ≡ false → (blank (drop (first_not p s) s) ≡ false → every p (trim s) ≡ false)
+      go : (b : Bool) → p x ≡ b → (t : Bytes) → trim s ≡ t → blank (drop (cond b (1 + first_not p s) 0) (x ∷ s)) ≡ false → (blank (drop (first_not p s) s) ≡ false → every p (trim s) ≡ false)
           → every p (trim (x ∷ s)) ≡ false
-      go true e [] f h r = absurd (never (sym (sym (ap (every p) f) ∙ r h)))
-      go true e (y ∷ t) f h r = ap (λ (u : Bytes). every p (cons_trim x u)) f ∙ (λ i. e i && every p (sym f i)) ∙ r h
+      go true e [] f h r = absurd (never (sym (sym (ap (every p) f) ∙ r (simp (one-add) at h))))
+      go true e (y ∷ t) f h r = ap (λ (u : Bytes). every p (cons_trim x u)) f ∙ (λ i. e i && every p (sym f i)) ∙ r (simp (one-add) at h)
       go false e [] f h r = ap (λ (u : Bytes). every p (cons_trim x u)) f ∙ one (is_space x) refl
         where
           one : (b : Bool) → is_space x ≡ b → every p (cond b [] (x ∷ [])) ≡ false

@@ -4,12 +4,10 @@
 ghost use Rattle.std.specs.Prelude.{◌≡◌, ◌&&◌, ◌||◌, eqb, leb, take};
 ghost use Rattle.paper.specs.Bytes.{part, within, is_space, number};
 ghost use Rattle.paper.specs.Fields.{beside, spaced, is_less, name, street, city, account, digits_then, zip, zip_ends00, zeros_then_blanks};
-ghost use Rattle.kinds.specs.Kinds.{table};
 ghost use Rattle.field.specs.Gap.{gap};
 
 use kinds::{
-    ACCOUNT, ALNUM, CITY, DIGIT, LETTER, NAME, STREET, all_of, count_of, first_not_of, is_in,
-    some_of,
+    ACCOUNT, ALNUM, CITY, LETTER, NAME, STREET, all_of, count_of, first_not_of, is_in, some_of,
 };
 
 // Two spaces stand right before another byte.
@@ -63,8 +61,9 @@ pub fn name(s: &[u8]) -> bool
     if !spaced(s) {
         return false;
     }
-    let kinds = kinds::table();
-    is_in(kinds, LETTER, text::byte(s, 0)) & all_of(kinds, NAME, s) & !loose_less(s)
+    is_in(kinds::table(), LETTER, text::byte(s, 0))
+        & all_of(kinds::table(), NAME, s)
+        & !loose_less(s)
 }
 
 pub fn street(s: &[u8]) -> bool
@@ -73,8 +72,7 @@ pub fn street(s: &[u8]) -> bool
     if !spaced(s) {
         return false;
     }
-    let kinds = kinds::table();
-    is_in(kinds, ALNUM, text::byte(s, 0)) & all_of(kinds, STREET, s)
+    is_in(kinds::table(), ALNUM, text::byte(s, 0)) & all_of(kinds::table(), STREET, s)
 }
 
 pub fn city(s: &[u8]) -> bool
@@ -83,21 +81,19 @@ pub fn city(s: &[u8]) -> bool
     if !spaced(s) {
         return false;
     }
-    let kinds = kinds::table();
-    (3 <= count_of(kinds, LETTER, s)) & all_of(kinds, CITY, s)
+    (3 <= count_of(kinds::table(), LETTER, s)) & all_of(kinds::table(), CITY, s)
 }
 
 // The account is what stands before the first byte that can be in none; after it only blanks.
 pub fn account(s: &[u8]) -> bool
     ensures { result ≡ account s.now }
 {
-    let kinds = kinds::table();
-    let n = first_not_of(kinds, ACCOUNT, s);
+    let n = first_not_of(kinds::table(), ACCOUNT, s);
     if !text::blank(&s[n..]) {
         return false;
     }
     let t = &s[0..n];
-    some_of(kinds, ALNUM, t) & !text::zeros(t)
+    some_of(kinds::table(), ALNUM, t) & !text::zeros(t)
 }
 
 // The first two of a routing number, if it is digits, are 01 to 12 or 21 to 32.
@@ -108,18 +104,16 @@ pub fn district(s: &[u8]) -> bool
     (1 <= n) & (n <= 12) | (21 <= n) & (n <= 32)
 }
 
-fn digits_then(kinds: &[u8; 256], s: &[u8], n: usize) -> bool
-    requires { kinds.now ≡ table }
+fn digits_then(s: &[u8], n: usize) -> bool
     ensures { result ≡ digits_then n s.now }
 {
-    all_of(kinds, DIGIT, text::piece(s, 0, n)) & text::blank(text::piece(s, n, s.len()))
+    kinds::digits(text::piece(s, 0, n)) & text::blank(text::piece(s, n, s.len()))
 }
 
 pub fn zip(s: &[u8]) -> bool
     ensures { result ≡ zip s.now }
 {
-    let kinds = kinds::table();
-    digits_then(kinds, s, 5) | digits_then(kinds, s, 9) | digits_then(kinds, s, 12)
+    digits_then(s, 5) | digits_then(s, 9) | digits_then(s, 12)
 }
 
 pub fn zip_ends_00(s: &[u8]) -> bool

@@ -1,15 +1,12 @@
 -- Texts laid into bytes from a place on. Assumes nothing.
 use mathlib.Core.Path.{◌≡◌, refl, sym, ap, ◌∙◌}
-use mathlib.Core.Bool.{Bool, true, false}
 use mathlib.Core.List.{List, [], ◌∷◌, ◌++◌, append-nil, append_assoc}
-use Prim.Native.Nat.{ℕ, suc, ◌+◌, ◌-◌, ◌<◌, ◌≤◌, min}
+use Prim.Native.Nat.{ℕ, zero, suc, ◌+◌, ◌-◌, ◌≤◌, min}
 use native.Mathlib.Nat.{add-suc, add-zero, zero-add, suc-add, le_of_eq}
 use native.Mathlib.Omega.{arith}
-use borrow.Author.Tests.{leb-true, leb-false}
-use lib.Dec.{leb}
-use lib.ListN.{length, get_or, set, drop, take, drop_of_length-le, length-drop}
-use lib.Seq.{sets, sets-eq, set_out, drop-drop, take_all}
-use Rattle.paper.proofs.Laws.{next, ended}
+use borrow.Rule.Slice.PartMut.{put_mid}
+use lib.ListN.{length, length-set, length-take, set, drop, take, drop_of_length-le, length-drop}
+use lib.Seq.{take-nil, sets, sets-eq, set_out, drop-drop, take_all}
 use Rattle.paper.specs.Bytes.{laid}
 
 -- two texts, the second right after the first, are one
@@ -24,25 +21,27 @@ sets_past [] r k h = refl
 sets_past (x ∷ t) r k h =
     ap (λ (q : List ℕ). sets q (suc k) t) (set_out r k x h) ∙ sets_past t r (suc k) (omega arith)
 
--- The answers of the loop that lays the first n bytes of a text t, as many as there is room for in out from a place on
-pub lay_start : (out t : List ℕ) (at : ℕ) → laid out (at + 0) (drop 0 t) ≡ laid out at t
-lay_start out t at = rw add-zero
+-- of a text only what there is room for is laid
+sets_room : (t r : List ℕ) (k n : ℕ) → n ≡ min (length t) (length r - k) → sets r k (take n t) ≡ sets r k t
+sets_room [] r k n e = ap (sets r k) (take-nil n)
+sets_room (x ∷ t) r k zero e = sym (sets_past (x ∷ t) r k (omega arith))
+sets_room (x ∷ t) r k (suc n) e = sets_room t (set r k x) (suc k) n (omega (arith, length-set r k x))
 
-module _ (out t e : List ℕ) (at i n : ℕ) (room : n ≡ min (length t) (length out - at)) (v : laid out (at + i) (drop i t) ≡ e) where
-  pub lay_again : i < n → laid (set out (at + i) (get_or t i 0)) (at + (i + 1)) (drop (i + 1) t) ≡ e
-  unfolding laid
-  lay_again h =
-      let k : at + (i + 1) ≡ suc (at + i) = omega arith in
-      let j : i < length t = omega arith in
-      ap (λ (m : ℕ). sets (set out (at + i) (get_or t i 0)) m (drop (i + 1) t)) k ∙ ap (sets out (at + i)) (sym (next t i j)) ∙ v
+-- what copying it leaves
+pub laid_copy : (out t : List ℕ) (at n m : ℕ) → at ≤ length out → n ≡ min (length t) (length out - at) → m ≡ n
+    → put_mid at m out (take n t) ≡ laid out at t
+unfolding laid
+laid_copy out t at n m h e f =
+    let size : n ≡ length (take n t) = omega (arith, length-take n t) in
+    let k : at + m ≡ at + length (take n t) = omega (arith, f, size) in
+    ap (λ (r : List ℕ). take at out ++ (take n t ++ r)) (drop-drop m at out ∙ ap (λ (i : ℕ). drop i out) k)
+    ∙ sym (append_assoc (take at out) (take n t) (drop (at + length (take n t)) out))
+    ∙ sym (sets-eq (take n t) out at (omega (arith, size))) ∙ sets_room t out at n e
 
-  pub lay_end : n ≤ i → out ≡ e
-  unfolding laid
-  lay_end h = by (leb (length t) i) refl
-    where
-      by : (b : Bool) → leb (length t) i ≡ b → out ≡ e
-      by true q = sym (ap (sets out (at + i)) (ended t i (leb-true _ _ q))) ∙ v
-      by false q = let f : i < length t = leb-false (length t) i q in sym (sets_past (drop i t) out (at + i) (omega arith)) ∙ v
+-- past the last byte nothing is
+pub laid_past : (out t : List ℕ) (at : ℕ) → length out ≤ at → out ≡ laid out at t
+unfolding laid
+laid_past out t at h = sym (sets_past t out at h)
 
 -- a text laid at the front of the k bytes from a place on, which are put back; for a caller that lends them
 pub lent_laid : (out x new : List ℕ) (to k : ℕ) → k ≡ length out - to → to + length x ≤ length out → new ≡ laid (take k (drop to out)) 0 x

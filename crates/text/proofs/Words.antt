@@ -1,25 +1,26 @@
 -- Bytes as one number: the number of two parts, the bytes back, and the order of the numbers.
 -- Assumes nothing.
 use Prim.{tt}
-use Prim.Native.Nat.{ℕ, zero, suc, ◌+◌, ◌-◌, ◌*◌, ◌/◌, ◌%◌, ◌^◌, ◌<◌, ◌≤◌}
+use Prim.Native.Nat.{ℕ, zero, suc, ◌+◌, ◌-◌, ◌*◌, ◌^◌, ◌<◌, ◌≤◌}
 use mathlib.Core.Path.{◌≡◌, refl, sym, ap, ap₂, ◌∙◌}
-use mathlib.Core.Bool.{Bool, true, false, ◌&&◌, ◌||◌, cond, and_assoc}
+use mathlib.Core.Bool.{Bool, true, false, ◌&&◌, ◌||◌, cond}
 use mathlib.Core.List.{[], ◌∷◌, ◌++◌}
-use native.Mathlib.Nat.{zero-mul, one-mul, mul-one, mul_comm, mul_assoc, add-mul, pow-suc, one-le-pow, suc-mul, mul-le-mul_right, add-mul-div_right, add-mul-mod_self_right, mod-lt, div-add-mod', add_comm}
+use native.Mathlib.Nat.{le_of_eq, div-div-eq-div-mul, zero-add, zero-mul, mul-one, mul_assoc, pow-suc, one-le-pow, suc-mul, mul-le-mul_right}
 use native.Mathlib.Omega.{arith}
+use Rattle.std.proofs.lemmas.List.{drop-replicate, take-append-drop}
+use Rattle.std.proofs.lemmas.List.Folds.{list_all-append}
+use Rattle.std.specs.Int.{from_le_bytes, from_be_bytes, to_le_bytes, w64}
 use lib.Arith.{digits_div, digits_mod}
-use lib.Dec.{eqb, leb, ltb, lit<}
-use lib.ListN.{length, get_or, take, drop, set, length-drop, length-set}
-use lib.Seq.{sets, length-sets, take_all, take-take, take-nil, drop-length}
+use lib.Dec.{eqb, ltb, lit<}
+use lib.ListN.{replicate, drop_of_length-le, length, get_or, take, drop, set}
+use lib.Seq.{drop-nil, sets-eq, sets, take-nil}
 use borrow.Author.Tests.{ltb-true, ltb-false, eqb-true, eqb-false, lt-ltb, le-ltb, le-leb, lt-leb}
-use Rattle.paper.specs.Bytes.{Bytes, every, same, before, part}
-use Rattle.paper.proofs.Laws.{both, next, same_eq, same_self}
+use Rattle.paper.specs.Bytes.{Bytes, laid, every, same, before, part}
+use Rattle.paper.proofs.Laws.{both, same_eq, same_self}
 use Rattle.text.specs.Words.{is_byte, little, bytes_of, high, word_laid}
 
 pub every_split : (p : ℕ → Bool) (k : ℕ) (s : Bytes) → every p s ≡ (every p (take k s) && every p (drop k s))
-every_split p zero s = refl
-every_split p (suc k) [] = refl
-every_split p (suc k) (x ∷ s) = ap (λ (b : Bool). p x && b) (every_split p k s) ∙ sym (and_assoc (p x) (every p (take k s)) (every p (drop k s)))
+every_split p k s = ap (every p) (sym (take-append-drop k s)) ∙ list_all-append p (take k s) (drop k s)
 
 -- bytes, the first one and the others
 first_byte : (x : ℕ) (s : Bytes) → every is_byte (x ∷ s) ≡ true → x < 256
@@ -70,17 +71,6 @@ none_high : (k : ℕ) → high k [] ≡ 0
 none_high zero = refl
 none_high (suc k) = refl
 
-none_back : (k : ℕ) → high k (bytes_of k 0) ≡ 0
-none_back zero = refl
-none_back (suc k) = ap₂ ◌+◌ (zero-mul (256 ^ k)) (none_back k)
-
-pub high_little : (k : ℕ) (s : Bytes) → every is_byte s ≡ true → high k (bytes_of k (little s)) ≡ high k s
-high_little zero s h = refl
-high_little (suc k) [] h = none_back (suc k)
-high_little (suc k) (x ∷ s) h =
-    (λ i. digits_mod (little s) (first_byte x s h) i * 256 ^ k + high k (bytes_of k (digits_div (little s) (first_byte x s h) i)))
-    ∙ ap (λ (n : ℕ). x * 256 ^ k + n) (high_little k s (other_bytes x s h))
-
 pub high_lt : (k : ℕ) (s : Bytes) → every is_byte s ≡ true → high k s < 256 ^ k
 high_lt zero s h = lit< tt
 high_lt (suc k) [] h = one-le-pow (suc k) 256 (lit< tt)
@@ -121,99 +111,67 @@ before_high (suc k) (x ∷ s) (y ∷ t) h g l m =
     ap (λ (c : Bool). ltb x y || eqb x y && c) (before_high k s t (other_bytes x s h) (other_bytes y t g) (omega (arith, l)) (omega (arith, m)))
     ∙ sym (pair_ltb (256 ^ k) x y (high k s) (high k t) (high_lt k s (other_bytes x s h)) (high_lt k t (other_bytes y t g)))
 
-power_split : (n k j : ℕ) → n ≡ k + j → 256 ^ n ≡ 256 ^ k * 256 ^ j
-power_split n zero j e = let m : n ≡ j = omega arith in ap (λ (i : ℕ). 256 ^ i) m ∙ sym (one-mul (256 ^ j))
-power_split zero (suc k) j e = absurd (omega arith)
-power_split (suc n) (suc k) j e =
-    let on : 256 ^ k * 256 ^ j * 256 ≡ 256 ^ k * 256 * 256 ^ j =
-    mul_assoc (256 ^ k) (256 ^ j) 256 ∙ ap (λ (m : ℕ). 256 ^ k * m) (mul_comm (256 ^ j) 256) ∙ sym (mul_assoc (256 ^ k) 256 (256 ^ j)) in
-    pow-suc 256 n ∙ ap (λ (m : ℕ). m * 256) (power_split n k j (omega arith)) ∙ on ∙ ap (λ (m : ℕ). m * 256 ^ j) (sym (pow-suc 256 k))
-
--- the bytes after the first k do not count
-high_take : (k : ℕ) (s : Bytes) → high k (take k s) ≡ high k s
-high_take zero s = refl
-high_take (suc k) [] = refl
-high_take (suc k) (x ∷ s) = ap (λ (n : ℕ). x * 256 ^ k + n) (high_take k s)
-
 pub drop-take : (n k j : ℕ) (s : Bytes) → n ≡ k + j → drop k (take n s) ≡ take j (drop k s)
 drop-take n zero j s e = let m : n ≡ j = omega arith in ap (λ (i : ℕ). take i s) m
 drop-take zero (suc k) j s e = absurd (omega arith)
 drop-take (suc n) (suc k) j [] e = sym (take-nil j)
 drop-take (suc n) (suc k) j (x ∷ s) e = drop-take n k j s (omega arith)
 
--- the number of two parts
-pub high_split : (n k j : ℕ) (s : Bytes) → n ≡ k + j → high n s ≡ high k s * 256 ^ j + high j (drop k s)
-high_split n zero j s e =
-    let m : n ≡ j = omega arith in
-    ap (λ (i : ℕ). high i s) m ∙ omega (arith, zero-mul (256 ^ j))
-high_split zero (suc k) j s e = absurd (omega arith)
-high_split (suc n) (suc k) j [] e = sym (ap₂ ◌+◌ (zero-mul (256 ^ j)) (none_high j))
-high_split (suc n) (suc k) j (x ∷ s) e =
-    let less : n ≡ k + j = omega arith in
-    let top : x * 256 ^ n ≡ x * 256 ^ k * 256 ^ j = ap (λ (m : ℕ). x * m) (power_split n k j less) ∙ sym (mul_assoc x (256 ^ k) (256 ^ j)) in
-    omega (arith, top, high_split n k j s less, add-mul (x * 256 ^ k) (high k s) (256 ^ j))
-
 -- FOR THE FUNCTIONS
 
-small : (a b c d : ℕ) → a < 256 → b < 256 → c < 256 → d < 256 → every is_byte (a ∷ b ∷ c ∷ d ∷ []) ≡ true
-small a b c d ha hb hc hd = simp (lt-ltb a 256 ha, lt-ltb b 256 hb, lt-ltb c 256 hc, lt-ltb d 256 hd)
+-- what a slice of bytes holds are bytes, and so what a part of it holds
+all_bytes : (s : Bytes) → ((i : ℕ) → get_or s i 0 < 256) → every is_byte s ≡ true
+all_bytes [] h = refl
+all_bytes (x ∷ s) h = ap₂ ◌&&◌ (lt-ltb x 256 (h 0)) (all_bytes s (λ i. h (suc i)))
 
-pub four_told : (s : Bytes) (r : ℕ) → length s ≡ 4 → get_or s 0 0 < 256 → get_or s 1 0 < 256 → get_or s 2 0 < 256 → get_or s 3 0 < 256
-    → r ≡ get_or s 0 0 + get_or s 1 0 * 256 + get_or s 2 0 * 65536 + get_or s 3 0 * 16777216 → (r ≡ little s) × (every is_byte s ≡ true)
-four_told (a ∷ b ∷ c ∷ d ∷ []) r l ha hb hc hd e = (omega (arith, e), small a b c d ha hb hc hd)
-four_told [] r l ha hb hc hd e = absurd (omega (arith, l))
-four_told (a ∷ []) r l ha hb hc hd e = absurd (omega (arith, l))
-four_told (a ∷ b ∷ []) r l ha hb hc hd e = absurd (omega (arith, l))
-four_told (a ∷ b ∷ c ∷ []) r l ha hb hc hd e = absurd (omega (arith, l))
-four_told (a ∷ b ∷ c ∷ d ∷ f ∷ s) r l ha hb hc hd e = absurd (omega (arith, l))
+pub part_bytes : (s : Bytes) (a n : ℕ) → ((i : ℕ) → get_or s i 0 < 256) → every is_byte (part a n s) ≡ true
+part_bytes s a n h =
+    let rest = (both _ (every is_byte (drop a s)) (sym (every_split is_byte a s) ∙ all_bytes s h)).1 in
+    (both (every is_byte (part a n s)) _ (sym (every_split is_byte n (drop a s)) ∙ rest)).0
 
--- two numbers of four bytes each as one
-module _ (q p : Bytes) (t : p ≡ q) (x y : ℕ) (l : length p ≡ 8) where
-  rest_is : take 4 (drop 4 p) ≡ drop 4 p
-  rest_is = take_all 4 (drop 4 p) (omega (arith, l, length-drop 4 p))
+-- bytes laid into eight zeros
+pub in_eight : (p : Bytes) → length p ≤ 8 → laid (replicate 8 0) 0 p ≡ p ++ replicate (8 - length p) 0
+unfolding laid
+in_eight p h =
+    sets-eq p (replicate 8 0) 0 (omega arith)
+    ∙ ap (λ (z : Bytes). p ++ z) (drop-replicate (0 + length p) 8 0 ∙ ap (λ (n : ℕ). replicate (8 - n) 0) (zero-add (length p)))
 
-  pub word_told : x ≡ little (take 4 p) → y ≡ little (take 4 (drop 4 p)) → x + y * 4294967296 ≡ little q
-  word_told e f = (λ i. e i + (f ∙ ap little rest_is) i * 4294967296) ∙ sym (little_split 4 p) ∙ ap little t
+-- zeros after the last byte do not count
+pub little_zeros : (p : Bytes) (k : ℕ) → little (p ++ replicate k 0) ≡ little p
+little_zeros [] zero = refl
+little_zeros [] (suc k) = omega (arith, little_zeros [] k)
+little_zeros (x ∷ p) k = ap (λ (n : ℕ). n * 256 + x) (little_zeros p k)
 
-  pub word_bytes : every is_byte (take 4 p) ≡ true → every is_byte (take 4 (drop 4 p)) ≡ true → every is_byte q ≡ true
-  word_bytes h g = ap (every is_byte) (sym t) ∙ every_split is_byte 4 p ∙ ap₂ ◌&&◌ h (ap (every is_byte) (sym rest_is) ∙ g)
+pub high_zeros : (n : ℕ) (p : Bytes) (k : ℕ) → high n (p ++ replicate k 0) ≡ high n p
+high_zeros zero p k = refl
+high_zeros (suc n) [] zero = refl
+high_zeros (suc n) [] (suc k) = ap₂ ◌+◌ (zero-mul (256 ^ n)) (high_zeros n [] k ∙ none_high n)
+high_zeros (suc n) (x ∷ p) k = ap (λ (m : ℕ). x * 256 ^ n + m) (high_zeros n p k)
 
-pub low_start : (s : Bytes) → (0 ≡ little (drop (length s) s)) × (every is_byte (drop (length s) s) ≡ true)
-low_start s = (ap little (sym (drop-length s)), ap (every is_byte) (drop-length s))
+-- the numbers that the library reads in eight bytes
+little_at : (i : ℕ) (s : Bytes) → little (drop i s) ≡ get_or s i 0 + little (drop (suc i) s) * 256
+little_at i [] = ap little (drop-nil i)
+little_at zero (x ∷ s) = omega arith
+little_at (suc i) (x ∷ s) = little_at i s
 
-pub low_fits : (s : Bytes) (i n : ℕ) → 0 < i → length s ≤ 8 → n ≡ little (drop i s) → every is_byte (drop i s) ≡ true → n < 72057594037927936
-low_fits s i n h l e g = rw e (little_lt 7 (drop i s) g (omega (arith, length-drop i s)))
+pub le_little : (s : Bytes) → length s ≡ 8 → from_le_bytes w64 s ≡ little s
+le_little s h =
+    let end : little (drop 8 s) ≡ 0 = ap little (drop_of_length-le s (le_of_eq h)) in
+    omega (arith, little_at 0 s, little_at 1 s, little_at 2 s, little_at 3 s, little_at 4 s, little_at 5 s, little_at 6 s, little_at 7 s)
 
--- a loop from the last byte to the first; x is the byte before place i
-pub low_again : (s : Bytes) (i n x : ℕ) → 0 < i → i ≤ length s → n ≡ little (drop i s) → every is_byte (drop i s) ≡ true → x ≡ get_or s (i - 1) 0 → x < 256
-    → (n * 256 + x ≡ little (drop (i - 1) s)) × (every is_byte (drop (i - 1) s) ≡ true)
-low_again s i n x h l e g f m =
-    let back : i - 1 + 1 ≡ i = omega arith in
-    let on : drop (i - 1) s ≡ x ∷ drop i s =
-    next s (i - 1) (omega arith) ∙ (λ j. sym f j ∷ drop (back j) s) in (
-      ap (λ (a : ℕ). a * 256 + x) e ∙ ap little (sym on),
-      ap (every is_byte) on ∙ ap₂ ◌&&◌ (lt-ltb x 256 m) g,
-    )
+high_at : (k i : ℕ) (s : Bytes) → high (suc k) (drop i s) ≡ get_or s i 0 * 256 ^ k + high k (drop (suc i) s)
+high_at k i [] = ap (high (suc k)) (drop-nil i) ∙ sym (ap₂ ◌+◌ (zero-mul (256 ^ k)) (none_high k))
+high_at k zero (x ∷ s) = refl
+high_at k (suc i) (x ∷ s) = high_at k i s
 
-pub low_done : (s : Bytes) (i n : ℕ) → i ≤ 0 → n ≡ little (drop i s) → every is_byte (drop i s) ≡ true → (n ≡ little s) × (every is_byte s ≡ true)
-low_done s zero n h e g = (e, g)
-low_done s (suc i) n h e g = absurd (omega arith)
+be_high : (s : Bytes) → from_be_bytes w64 s ≡ high 8 s
+be_high s = omega (arith, high_at 7 0 s, high_at 6 1 s, high_at 5 2 s, high_at 4 3 s, high_at 3 4 s, high_at 2 5 s, high_at 1 6 s, high_at 0 7 s)
 
-pub turned_fits : (a b c d e f g h : ℕ) → a < 256 → b < 256 → c < 256 → d < 256 → e < 256 → f < 256 → g < 256 → h < 256
-    → a * 72057594037927936 + b * 281474976710656 + c * 1099511627776 + d * 4294967296 + e * 16777216 + f * 65536 + g * 256 + h < 18446744073709551616
-turned_fits a b c d e f g h ha hb hc hd he hf hg hh = omega arith
+pub be_eight : (s p : Bytes) (k : ℕ) → s ≡ p ++ replicate k 0 → from_be_bytes w64 s ≡ high 8 p
+be_eight s p k e = be_high s ∙ ap (high 8) e ∙ high_zeros 8 p k
 
-pub turned_told : (a b c d e f g h : ℕ)
-    → a * 72057594037927936 + b * 281474976710656 + c * 1099511627776 + d * 4294967296 + e * 16777216 + f * 65536 + g * 256 + h
-    ≡ high 8 (a ∷ b ∷ c ∷ d ∷ e ∷ f ∷ g ∷ h ∷ [])
-turned_told a b c d e f g h = omega arith
-
--- a key's two halves
-pub halves : (s : Bytes) (x y : ℕ) → x ≡ high 8 (part 0 8 s) → y ≡ high 8 (part 8 8 s) → x * 18446744073709551616 + y ≡ high 16 s
-halves s x y e f = (λ i. e i * 18446744073709551616 + f i) ∙ (λ i. high_take 8 s i * 18446744073709551616 + high_take 8 (drop 8 s) i) ∙ sym (high_split 16 8 8 s refl)
-
-pub halves_bytes : (s : Bytes) → every is_byte (part 0 8 s) ≡ true → every is_byte (part 8 8 s) ≡ true → every is_byte (part 0 16 s) ≡ true
-halves_bytes s h g = every_split is_byte 8 (part 0 16 s) ∙ ap₂ ◌&&◌ (ap (every is_byte) (take-take 8 16 s (omega arith)) ∙ h) (ap (every is_byte) (drop-take 16 8 8 s refl) ∙ g)
+pub le_bytes : (w : ℕ) → to_le_bytes w64 w ≡ bytes_of 8 w
+le_bytes w = simp div-div-eq-div-mul
 
 -- four stores in a row are one text laid
 pub stores : (l : Bytes) (i a b c d : ℕ) → set (set (set (set l i a) (i + 1) b) (i + 2) c) (i + 3) d ≡ sets l i (a ∷ b ∷ c ∷ d ∷ [])
@@ -223,45 +181,6 @@ stores l i a b c d =
     let three : i + 3 ≡ suc (suc (suc i)) = omega arith in
     λ j. set (set (set (set l i a) (one j) b) (two j) c) (three j) d
 
-pub second : (l : Bytes) (i a : ℕ) → i + 4 ≤ length l → i + 1 < length (set l i a)
-second l i a h = omega (arith, h, length-set l i a)
-
-pub third : (l : Bytes) (i a j b : ℕ) → i + 4 ≤ length l → i + 2 < length (set (set l i a) j b)
-third l i a j b h = omega (arith, h, length-set l i a, length-set (set l i a) j b)
-
-pub fourth : (l : Bytes) (i a j b k c : ℕ) → i + 4 ≤ length l → i + 3 < length (set (set (set l i a) j b) k c)
-fourth l i a j b k c h = omega (arith, h, length-set l i a, length-set (set l i a) j b, length-set (set (set l i a) j b) k c)
-
--- one byte off a number
-off : (n k x y : ℕ) → bytes_of (suc k) (x + y * (n * 256)) ≡ x % 256 ∷ bytes_of k (x / 256 + y * n)
-off n k x y =
-    ap (bytes_of (suc k)) (ap (λ (z : ℕ). x + z) (sym (mul_assoc y n 256)))
-    ∙ ap₂ (λ (a : ℕ) (t : Bytes). a ∷ t) (add-mul-mod_self_right x (y * n) 256)
-    (ap (bytes_of k) (add-mul-div_right x (y * n) (lit< tt)))
-
--- two numbers of four bytes as one of eight
-eight : (x y : ℕ) → x < 4294967296 → bytes_of 8 (x + y * 4294967296) ≡ bytes_of 4 x ++ bytes_of 4 y
-eight x y h =
-    off 16777216 7 x y
-    ∙ ap (λ (t : Bytes). x % 256 ∷ t)
-    (off 65536 6 (x / 256) y
-    ∙ ap (λ (t : Bytes). x / 256 % 256 ∷ t)
-    (off 256 5 (x / 256 / 256) y
-    ∙ ap (λ (t : Bytes). x / 256 / 256 % 256 ∷ t)
-    (off 1 4 (x / 256 / 256 / 256) y
-    ∙ ap (λ (t : Bytes). x / 256 / 256 / 256 % 256 ∷ t) (ap (bytes_of 4) (omega (arith, h))))))
-
--- a text laid after four bytes
-after_four : (l : Bytes) (i a b c d : ℕ) (t : Bytes) → sets (sets l i (a ∷ b ∷ c ∷ d ∷ [])) (i + 4) t ≡ sets l i (a ∷ b ∷ c ∷ d ∷ t)
-after_four l i a b c d t =
-    let on : i + 4 ≡ suc (suc (suc (suc i))) = omega arith in
-    ap (λ (k : ℕ). sets (sets l i (a ∷ b ∷ c ∷ d ∷ [])) k t) on
-
-in_two : (l : Bytes) (i w : ℕ) → sets (sets l i (bytes_of 4 (w % 4294967296))) (i + 4) (bytes_of 4 (w / 4294967296)) ≡ sets l i (bytes_of 8 w)
-in_two l i w =
-    after_four l i _ _ _ _ (bytes_of 4 (w / 4294967296))
-    ∙ ap (sets l i) (sym (eight (w % 4294967296) (w / 4294967296) (mod-lt w (lit< tt))) ∙ ap (bytes_of 8) (add_comm (w % 4294967296) (w / 4294967296 * 4294967296) ∙ div-add-mod' w 4294967296))
-
 -- FOR CALLERS: a word laid
 
 pub word_fits : (l : Bytes) (i w : ℕ) → i + 8 ≤ length l → word_laid l i w ≡ sets l i (bytes_of 8 w)
@@ -270,13 +189,4 @@ word_fits l i w h = ap (λ (b : Bool). cond b (sets l i (bytes_of 8 w)) l) (le-l
 pub word_out : (l : Bytes) (i w : ℕ) → length l < i + 8 → word_laid l i w ≡ l
 word_out l i w h = ap (λ (b : Bool). cond b (sets l i (bytes_of 8 w)) l) (lt-leb (i + 8) (length l) h)
 
-pub word_length : (o l : Bytes) (i w : ℕ) → o ≡ word_laid l i w → (o ≡ word_laid l i w) × (length o ≡ length l)
-word_length o l i w e = (e, ap length e ∙ go (leb (i + 8) (length l)))
-  where
-    go : (b : Bool) → length (cond b (sets l i (bytes_of 8 w)) l) ≡ length l
-    go true = length-sets l i (bytes_of 8 w)
-    go false = refl
-
-pub word_put : (l : Bytes) (i w : ℕ) → i + 8 ≤ length l
-    → sets (sets l i (bytes_of 4 (w % 4294967296))) (i + 4) (bytes_of 4 (w / 4294967296)) ≡ word_laid l i w
-word_put l i w h = in_two l i w ∙ sym (word_fits l i w h)
+pub ruleset word_put = (word_fits, word_out, le_bytes)
