@@ -1,21 +1,20 @@
 -- The names of records as numbers. Assumes nothing.
 use Prim.{tt}
-use Prim.Native.Nat.{ℕ, suc, ◌+◌, ◌-◌, ◌*◌, ◌%◌, ◌^◌, ◌≤◌, ◌<◌}
+use Prim.Native.Nat.{ℕ, suc, ◌+◌, ◌*◌, ◌%◌, ◌^◌, ◌≤◌, ◌<◌}
 use mathlib.Core.Path.{◌≡◌, refl, sym, ap, ◌∙◌}
 use mathlib.Core.Bool.{Bool, true, false, cond}
-use mathlib.Core.List.{[], ◌∷◌}
-use native.Mathlib.Nat.{add_comm, add-sub_cancel_left}
+use native.Mathlib.Nat.{add_comm}
 use native.Mathlib.Omega.{arith}
 use borrow.Author.Tests.{eqb-true, eqb-false, ne_eqb}
 use lib.Arith.{digits_mod}
 use lib.Dec.{eqb, lit≤}
-use lib.ListN.{length, get_or, take, drop, length-take}
-use lib.Seq.{take_all, take-take, drop-drop}
+use lib.ListN.{length, take, drop, length-take}
+use lib.Seq.{take-take}
 use Rattle.paper.specs.declared.Kind.{Kind}
 use Rattle.paper.specs.declared.Kind.TheVariants.{TranA, TranB, Form, Unknown, Payment, Auth, Summary, Recap, Stray}
-use Rattle.paper.specs.Bytes.{Bytes, bytes, every, same, part, number}
-use Rattle.paper.specs.Walk.{count_of, named_form, named}
-use Rattle.paper.proofs.Laws.{both, same_eq, part_take}
+use Rattle.paper.specs.Bytes.{Bytes, bytes, every, same, part}
+use Rattle.paper.specs.Walk.{named_form, named}
+use Rattle.paper.proofs.Laws.{both, same_eq}
 use Rattle.text.specs.Words.{is_byte, little}
 use Rattle.text.proofs.Words.{little_split, little_lt, every_split, same_little}
 
@@ -36,30 +35,6 @@ module _ (k : ℕ) (r : Bytes) (at w : ℕ) (few : k ≤ 8) (e : w ≡ little (p
       let less : little s < 256 ^ k = little_lt k s first_bytes (omega (arith, length-take k (drop at r))) in
       ap (λ (x : ℕ). x % 256 ^ k) (e ∙ little_split k (part at 8 r) ∙ ap (λ (l : Bytes). little l + q * 256 ^ k) first ∙ add_comm (little s) (q * 256 ^ k))
       ∙ digits_mod q less
-
--- six bytes of the record of size bytes at a place, from one of its bytes on
-module _ (t : Bytes) (at size from w : ℕ) where
-  abbrev six : Bytes
-  six = part from 6 (part at size t)
-
-  -- as the word of six bytes
-  pub short_told : (p : Bytes) → p ≡ part from 6 (take (at + size - at) (drop at t)) → w ≡ little (part 0 8 p) → every is_byte (part 0 8 p) ≡ true
-      → (w ≡ little six) × (every is_byte six ≡ true)
-  short_told p e f h =
-      let e' : p ≡ six = e ∙ ap (λ (n : ℕ). part from 6 (take n (drop at t))) (add-sub_cancel_left at size) in
-      let all : take 8 p ≡ six = take_all 8 p (omega (arith, ap length e', length-take 6 (drop from (part at size t)))) ∙ e' in
-      (f ∙ ap little all, ap (every is_byte) (sym all) ∙ h)
-
-  -- in a word of t
-  pub long_told : 43 ≤ size → from ≤ 14 → w ≡ little (part 0 8 (take (at + from + 8 - (at + from)) (drop (at + from) t)))
-      → every is_byte (part 0 8 (take (at + from + 8 - (at + from)) (drop (at + from) t))) ≡ true → (w % 281474976710656 ≡ little six) × (every is_byte six ≡ true)
-  long_told l m f h =
-      let here : six ≡ part (at + from) 6 t = part_take size from 6 (drop at t) (omega (arith, l, m)) ∙ ap (take 6) (drop-drop from at t) in
-      let word : part 0 8 (take (at + from + 8 - (at + from)) (drop (at + from) t)) ≡ part (at + from) 8 t =
-      ap (λ (n : ℕ). take 8 (take n (drop (at + from) t))) (add-sub_cancel_left (at + from) 8) ∙ take-take 8 8 (drop (at + from) t) (omega arith) in
-      let e : w ≡ little (part (at + from) 8 t) = f ∙ ap little word in
-      let g : every is_byte (part (at + from) 8 t) ≡ true = ap (every is_byte) (sym word) ∙ h in
-      (first_told 6 t (at + from) w (omega arith) e g ∙ ap little (sym here), ap (every is_byte) here ∙ first_bytes 6 t (at + from) w (omega arith) e g)
 
 -- bytes, fewer than the name's where the record ends before, are the name exactly if the numbers are the same: its last byte is not 0
 pub is_name : (k : ℕ) (s b : Bytes) (n : ℕ) → n ≡ little s → every is_byte s ≡ true → length s ≤ suc k
@@ -117,15 +92,6 @@ named_by r n e h =
       by_number r 8 n e h (bytes "TRANA ") refl refl (lit≤ tt),
       by_number r 8 n e h (bytes "TRANB ") refl refl (lit≤ tt),
     )
-
--- the four digits of a count
-pub count_told : (s : Bytes) (n : ℕ) → 4 ≤ length s → n ≡ (get_or s 0 0 - 48) * 1000 + (get_or s 1 0 - 48) * 100 + (get_or s 2 0 - 48) * 10 + (get_or s 3 0 - 48) → n ≡ count_of s
-unfolding count_of number
-count_told (x ∷ y ∷ z ∷ u ∷ s) n l e = omega (arith, e)
-count_told [] n l e = absurd (omega (arith, l))
-count_told (x ∷ []) n l e = absurd (omega (arith, l))
-count_told (x ∷ y ∷ []) n l e = absurd (omega (arith, l))
-count_told (x ∷ y ∷ z ∷ []) n l e = absurd (omega (arith, l))
 
 -- "****"
 pub stars_told : (s : Bytes) (w : ℕ) → w ≡ little (part 4 8 s) → every is_byte (part 4 8 s) ≡ true → same (part 4 4 s) (bytes "****") ≡ eqb (w % 4294967296) 707406378

@@ -1,13 +1,14 @@
 -- The facts of a document's records, one record after the other. Assumes nothing.
-use Rattle.std.specs.Prelude.{ℕ, ◌+◌, true, false, cond, ◌&&◌, ◌||◌, eqb}
+use Rattle.std.specs.Prelude.{ℕ, ◌+◌, true, false, cond, ◌&&◌, ◌||◌, Option, Some, None}
+use Rattle.std.specs.Option.{option_or}
 use Rattle.paper.specs.declared.Facts.{Facts}
 use Rattle.paper.specs.declared.Kind.TheVariants.{Payment, Auth, Summary}
 use Rattle.paper.specs.Bytes.{Bytes, bytes, bit}
 use Rattle.paper.specs.Conditions.{of_kind, for_type, pin_type}
 
--- the PIN type after one record more
-unfoldable pub pin_after : Facts → Bytes → ℕ
-pin_after f r = cond (eqb f.aths 0 && of_kind Auth r) (pin_type r) f.pin
+-- the PIN type after one record more: the first one stays
+unfoldable pub pin_after : Facts → Bytes → Option ℕ
+pin_after f r = option_or f.pin (cond (of_kind Auth r) (Some (pin_type r)) None)
 
 -- the facts of one record more
 -- tied to the paper by `facts_are` of walk/Facts
@@ -22,4 +23,4 @@ facts_with f r = record {
 }
 
 abbrev pub no_facts : Facts
-no_facts = record { pays = 0; aths = 0; sum = false; spouse = true; own = true; pin = 0 }
+no_facts = record { pays = 0; aths = 0; sum = false; spouse = true; own = true; pin = None }

@@ -1,24 +1,24 @@
-use native.Mathlib.Omega.{arith}
-use Rattle.walk.proofs.Loops.{stepped, other_step, scan_no, scan_on, scan_end}
+use Rattle.std.proofs.Common.{rules, tests, arith}
+use Rattle.std.proofs.lemmas.List.{take_rest}
+use Rattle.walk.proofs.Loops.{stepped, shorter, other_step, scan_no, scan_on, scan_end}
 use Rattle.walk.proofs.structure.Goals as goal
 
 pub returns-in_default : goal.returns-in_default
-returns-in_default c = scan_no _ _ _ _ c.loop-at.invariant c.step_at.result c.step_at.ensures (other_step c.step_at.result c.in_default.not-Record) c.loop-at-test.true
+returns-in_default c = scan_no _ _ _ _ c.loop-rest.invariant c.step_in.result c.step_in.ensures (other_step c.step_in.result c.in_default.not-Record) (grind (arith, tests))
 
-pub overflow_add-at : goal.overflow_add-at
-overflow_add-at c =
-    let h = stepped _ c.loop-at.at _ c.step_at.result c.step_at.ensures c.in-Record.is in
-    omega arith
+pub slice_bounds-rest-count : goal.slice_bounds-rest-count
+slice_bounds-rest-count c = let h = stepped _ c.in-Record.record _ c.step_in.ensures c.in-Record.is in omega arith
 
-pub loop-at-smaller : goal.loop-at-smaller
-loop-at-smaller c =
-    let h = stepped _ c.loop-at.at _ c.step_at.result c.step_at.ensures c.in-Record.is in
-    omega arith
+pub slice_bounds-rest-start : goal.slice_bounds-rest-start
+slice_bounds-rest-start c = let h = stepped _ c.in-Record.record _ c.step_in.ensures c.in-Record.is in search rules
 
-pub loop-at-preserved : goal.loop-at-preserved
-loop-at-preserved c =
-    let h = stepped _ c.loop-at.at _ c.step_at.result c.step_at.ensures c.in-Record.is in
-    scan_on _ _ _ _ c.loop-at.invariant _ _ _ _ h c.next-order.ensures c.opens.ensures c.one_if-docs.ensures.0
+pub loop-rest-smaller : goal.loop-rest-smaller
+loop-rest-smaller c = shorter _ _ (stepped _ c.in-Record.record _ c.step_in.ensures c.in-Record.is)
+
+pub loop-rest-preserved : goal.loop-rest-preserved
+loop-rest-preserved c =
+    let h = stepped _ c.in-Record.record _ c.step_in.ensures c.in-Record.is in
+    rw take_rest (scan_on _ _ _ _ c.loop-rest.invariant _ _ _ _ h c.next-order.ensures c.opens.ensures (search rules))
 
 pub returns : goal.returns
-returns c = scan_end _ _ _ _ c.loop-at.invariant _ c.loop-at-test.false c.conclude.ensures
+returns c = scan_end _ _ _ _ c.loop-rest.invariant _ (grind (arith, tests)) c.conclude.ensures
