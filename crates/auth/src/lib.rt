@@ -1,12 +1,10 @@
 // The rules of an authentication: which of them a record breaks.
 #![tactic(auto)]
 
-ghost use Rattle.std.specs.Prelude.{◌≡◌, not, ◌&&◌, cond, [], ◌∷◌, ℕ, ◌/◌, ◌%◌, eqb, length, get_or};
+ghost use Rattle.std.specs.Prelude.{◌≡◌, not, ◌&&◌, cond, [], ◌∷◌, ℕ, ◌/◌, ◌%◌, eqb, length};
 ghost use Rattle.paper.specs.Bytes.{same, blank, present};
 ghost use Rattle.paper.specs.Conditions.{not_date, not_digits, not_pin, income_in, wrong_auth, typed, spouse_only, self_only, auth_holds, auth_rules};
-ghost use Rattle.text.specs.Words.{little};
 ghost use Rattle.words.specs.Sets.{bit_on, bits_on, bits_by};
-ghost use Rattle.words.specs.Tables.{rule_text};
 ghost use Rattle.auth.specs.Asked.{asked_of, field_holds};
 
 use layout::field_of;
@@ -221,10 +219,10 @@ static RULES: [u32; 43] = [
     80_0681, 80_0682,
 ];
 
-// The text of the rule at a place of the table, its field and its code: eight bytes, the first one lowest.
+// The rules in the table's order, each its field and its code.
 #[tactic(auto, unfolding(paper::specs::Conditions::auth_rules))]
-pub fn text_at(i: usize) -> u64
-    ensures { result ≡ little (rule_text (get_or auth_rules i 0)) }
+pub fn table() -> &'static [u32]
+    ensures { result.now ≡ auth_rules }
 {
-    words::text_at(&RULES, i)
+    &RULES
 }

@@ -1,16 +1,14 @@
 // The rules of the 4868: which of them a form breaks.
 #![tactic(auto)]
 
-ghost use Rattle.std.specs.Prelude.{◌≡◌, not, cond, ◌&&◌, [], ◌∷◌, ◌%◌, ◌≤◌, None, eqb, length, get_or};
+ghost use Rattle.std.specs.Prelude.{◌≡◌, not, cond, ◌&&◌, [], ◌∷◌, ◌%◌, ◌≤◌, None, eqb, length};
 ghost use Rattle.paper.specs.declared.Layout.TheVariants.{L4868};
 ghost use Rattle.paper.specs.Bytes.{within, empty};
 ghost use Rattle.paper.specs.Fields.{street, city};
 ghost use Rattle.paper.specs.Layouts.{field};
 ghost use Rattle.paper.specs.Pack.{lines_in};
 ghost use Rattle.paper.specs.Conditions.{facts_of, not_digits, form_fillers, addressed, wrong_state, bad_zip, wrong_zip, wrong_foreign, no_spouse, form_rules};
-ghost use Rattle.text.specs.Words.{little};
 ghost use Rattle.words.specs.Sets.{bits_on, bits_by};
-ghost use Rattle.words.specs.Tables.{rule_text};
 ghost use Rattle.words.specs.Past.{number_if, identity_of, no_identity};
 ghost use Rattle.form.specs.Breaks.{breaks, is_at_most};
 ghost use Rattle.form.specs.Told.{told_by};
@@ -320,10 +318,10 @@ static RULES: [u32; 38] = [
     130_0010, 140_0010, 170_0010, 180_0010, 200_0010, 210_0010,
 ];
 
-// The text of the rule at a place of the table, its field and its code: eight bytes, the first one lowest.
+// The rules in the table's order, each its field and its code.
 #[tactic(auto, unfolding(paper::specs::Conditions::form_rules))]
-pub fn text_at(i: usize) -> u64
-    ensures { result ≡ little (rule_text (get_or form_rules i 0)) }
+pub fn table() -> &'static [u32]
+    ensures { result.now ≡ form_rules }
 {
-    words::text_at(&RULES, i)
+    &RULES
 }

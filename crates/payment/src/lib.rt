@@ -1,13 +1,11 @@
 // The rules of a payment: which of them a record breaks.
 #![tactic(auto)]
 
-ghost use Rattle.std.specs.Prelude.{◌≡◌, cond, ◌&&◌, [], ◌∷◌, eqb, length, get_or};
+ghost use Rattle.std.specs.Prelude.{◌≡◌, cond, ◌&&◌, [], ◌∷◌, eqb, length};
 ghost use Rattle.paper.specs.declared.Layout.TheVariants.{LPayment};
 ghost use Rattle.paper.specs.Layouts.{field};
 ghost use Rattle.paper.specs.Conditions.{wrong_pay_date, foreign, runs, wrong_payment, other_spouse, wrong_bank, tax_type, payment_rules};
-ghost use Rattle.text.specs.Words.{little};
 ghost use Rattle.words.specs.Sets.{bits_on, bits_by};
-ghost use Rattle.words.specs.Tables.{rule_text};
 ghost use Rattle.payment.specs.Breaks.{breaks};
 
 use layout::field_of;
@@ -119,10 +117,10 @@ static RULES: [u32; 14] = [
     70_0010, 80_0397, 90_0010,
 ];
 
-// The text of the rule at a place of the table, its field and its code: eight bytes, the first one lowest.
+// The rules in the table's order, each its field and its code.
 #[tactic(auto, unfolding(paper::specs::Conditions::payment_rules))]
-pub fn text_at(i: usize) -> u64
-    ensures { result ≡ little (rule_text (get_or payment_rules i 0)) }
+pub fn table() -> &'static [u32]
+    ensures { result.now ≡ payment_rules }
 {
-    words::text_at(&RULES, i)
+    &RULES
 }

@@ -1,30 +1,25 @@
 -- A record written at a place of an output. Assumes nothing.
 use mathlib.Core.Path.{◌≡◌, refl, sym, ap, ◌∙◌}
-use mathlib.Core.Bool.{true}
-use mathlib.Core.List.{[], ◌∷◌, ◌++◌, append_assoc}
+use Rattle.std.proofs.Common.{rules}
+use mathlib.Core.List.{[], ◌∷◌, ◌++◌}
 use Prim.{tt}
 use Prim.Native.Nat.{ℕ, suc, ◌+◌, ◌-◌, ◌/◌, ◌%◌, ◌<◌, ◌≤◌}
 use native.Mathlib.Omega.{arith}
-use borrow.Author.Tests.{le-leb, lt-leb, lt-ltb}
+use borrow.Author.Tests.{le-leb, lt-leb}
 use borrow.Rule.Slice.PartMut.{put_mid}
 use lib.Dec.{lit≤}
 use lib.ListN.{length, take, drop, set, length-take, length-drop, take-append-drop}
-use lib.Seq.{sets, sets-eq, length-sets, set-set, set_comm, length-take-le, take_all, take-add, drop-drop}
-use Rattle.paper.specs.declared.Layout.TheVariants.{LError}
+use lib.Seq.{sets, set-set, set_comm, length-take-le, take_all, take-add}
 use Rattle.paper.specs.Bytes.{Bytes, bytes, part, written, laid}
 use Rattle.paper.specs.Layouts.{entry, ack_error}
 use Rattle.paper.specs.File.{error_record, record_of}
-use Rattle.text.specs.Words.{is_byte, little, bytes_of, word_laid}
-use Rattle.text.proofs.Laying.{laid_append}
-use Rattle.text.proofs.Words.{bytes_little, word_fits}
+use Rattle.text.proofs.Laying.{laid_append, laid_copy}
 use Rattle.record.specs.Parts.{error_model, error_by, placed}
 
 -- a text written over a part of the same length
 pub mid_laid : (r s : Bytes) (at k : ℕ) → k ≡ length s → at + length s ≤ length r → put_mid at k r s ≡ laid r at s
-unfolding laid
 mid_laid r s at k e h =
-    let d : drop k (drop at r) ≡ drop (at + length s) r = drop-drop k at r ∙ ap (λ (m : ℕ). drop (at + m) r) e in
-    ap (λ (q : Bytes). take at r ++ (s ++ q)) d ∙ sym (append_assoc (take at r) s (drop (at + length s) r)) ∙ sym (sets-eq s r at h)
+    ap (put_mid at k r) (sym (take_all (length s) s (omega arith))) ∙ laid_copy r s at (length s) k (omega arith) (omega arith) e
 
 module _ (out r : Bytes) (at : ℕ) where
   -- no room
@@ -87,15 +82,8 @@ before (c ∷ x) y r a b h = ap (λ (q : Bytes). sets q (suc a) x) (set_sets y r
 below : (x y r q : Bytes) (a b : ℕ) → a + length x ≤ b → laid r a x ≡ q → laid (laid r b y) a x ≡ laid q b y
 below x y r q a b h e = before x y r a b h ∙ ap (λ (s : Bytes). laid s b y) e
 
-digit_byte : (x : ℕ) → is_byte (x % 10 + 48) ≡ true
-digit_byte x = lt-ltb (x % 10 + 48) 256 (omega arith)
-
--- the eight digits of a rule
-rule_bytes : (rule text : ℕ) → text ≡ little (written 4 (rule / 10000) ++ written 4 (rule % 10000)) → bytes_of 8 text ≡ written 4 (rule / 10000) ++ written 4 (rule % 10000)
-rule_bytes rule text e = ap (bytes_of 8) e ∙ bytes_little (written 4 (rule / 10000) ++ written 4 (rule % 10000)) (simp digit_byte)
-
 -- the record is the paper's
-pub error_said : (ssn : Bytes) (n : ℕ) (id type page occurrence : Bytes) (rule text : ℕ) → text ≡ little (written 4 (rule / 10000) ++ written 4 (rule % 10000))
+pub error_said : (ssn : Bytes) (n : ℕ) (id type page occurrence : Bytes) (rule : ℕ) (text : Bytes) → text ≡ written 4 (rule / 10000) ++ written 4 (rule % 10000)
     → error_by (error_model ssn id type page occurrence) n text ≡ error_record ssn n id type page occurrence rule
 unfolding error_by error_model error_record record_of entry ack_error
 error_said ssn n id type page occurrence rule text e =
@@ -105,11 +93,8 @@ error_said ssn n id type page occurrence rule text e =
     let numbered =
     below d (bytes "#") _ _ 30 119 (lit≤ tt)
     (below d occurrence _ _ 30 49 (lit≤ tt) (below d page _ _ 30 44 (lit≤ tt) (below d type _ _ 30 38 (lit≤ tt) (below d id _ _ 30 32 (lit≤ tt) refl)))) in
-    (λ i. laid (numbered i) 56 (rule_bytes rule text e i)) ∙ below (w ++ v) (bytes "#") _ _ 56 119 (lit≤ tt) (sym (laid_append w v _ 56))
+    (λ i. laid (numbered i) 56 (e i)) ∙ below (w ++ v) (bytes "#") _ _ 56 119 (lit≤ tt) (sym (laid_append w v _ 56))
 
-module _ (model p q : Bytes) (n text at : ℕ) where
-  pub error_made : length model ≡ 120 → p ≡ laid model (entry LError 30).start (written 2 n) → at ≡ (entry LError 80).start → q ≡ word_laid p at text → q ≡ error_by model n text
-  unfolding error_by laid entry ack_error
-  error_made l ep ea eq =
-      let k : length p ≡ length model = ap length ep ∙ length-sets model 30 (written 2 n) in
-      eq ∙ word_fits p at text (omega arith) ∙ (λ i. sets (ep i) (ea i) (bytes_of 8 text))
+-- eight digits are the field's and the code's
+pub eight_digits : (rule : ℕ) → written 8 rule ≡ written 4 (rule / 10000) ++ written 4 (rule % 10000)
+eight_digits rule = search rules

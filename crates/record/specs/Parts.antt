@@ -5,7 +5,6 @@ use Rattle.paper.specs.declared.Layout.TheVariants.{LError}
 use Rattle.paper.specs.Bytes.{Bytes, bytes, written, blanks, laid}
 use Rattle.paper.specs.Layouts.{entry}
 use Rattle.paper.specs.File.{record_of}
-use Rattle.text.specs.Words.{bytes_of}
 
 -- 120 blanks, the byte count, and field 0, the record's id
 unfoldable pub started : Layout → Bytes → Bytes
@@ -30,8 +29,8 @@ error_model ssn id type page occurrence =
 
 -- a model with a running number and eight digits, those of the rule's field and code
 -- tied to the paper by `error_said` of record/Laws
-unfoldable pub error_by : Bytes → ℕ → ℕ → Bytes
-error_by model n text = laid (laid model (entry LError 30).start (written 2 n)) (entry LError 80).start (bytes_of 8 text)
+unfoldable pub error_by : Bytes → ℕ → Bytes → Bytes
+error_by model n text = laid (laid model (entry LError 30).start (written 2 n)) (entry LError 80).start text
 
 -- a record at a place of an output; where its 120 bytes do not fit whole, nothing is changed
 -- tied to the paper by `not_placed` and `lent_placed` of record/Laws

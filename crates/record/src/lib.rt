@@ -40,7 +40,7 @@ fn lay_text(r: &mut [u8], at: usize, text: &[u8])
     ensures { r.new ≡ laid r.old at text.now }
 {
     let n = text.len();
-    let fits = n <= r.len().saturating_sub(at);
+    let fits = at.saturating_add(n) <= r.len();
     match n {
         4..=7 if fits => {
             copy::<4>(r, at, text, 0);
@@ -126,8 +126,8 @@ pub fn error_model(ssn: &[u8], id: &[u8], form: &[u8], page: &[u8], occurrence: 
     r
 }
 
-#[tactic(auto, using(crate::proofs::Laws::error_made))]
-fn error_by(model: &[u8; 120], n: u32, text: u64) -> [u8; 120]
+#[tactic(auto, unfolding(crate::specs::Parts::error_by))]
+fn error_by(model: &[u8; 120], n: u32, text: [u8; 8]) -> [u8; 120]
     ensures { result ≡ error_by model.now n text }
 {
     let mut r = *model;
@@ -137,7 +137,7 @@ fn error_by(model: &[u8; 120], n: u32, text: u64) -> [u8; 120]
         30,
         &text::written::<2>(u64::from(n)),
     );
-    text::put_word(&mut r, layout::start_of(Layout::LError, 80), text);
+    lay(&mut r, Layout::LError, 80, &text);
     r
 }
 
@@ -183,7 +183,7 @@ fn recap_record(recap: &[u8], twelve: &[u8], accepted: u32, all: u32, name: &[u8
 fn put(out: &mut [u8], at: usize, r: &[u8; 120])
     ensures { out.new ≡ placed out.old at r.now }
 {
-    if 120 <= out.len().saturating_sub(at) {
+    if at.saturating_add(120) <= out.len() {
         out[at..at + 120].copy_from_slice(r)
     }
 }
@@ -196,7 +196,7 @@ pub fn put_key(out: &mut [u8], at: usize, key: Key)
 }
 
 // ACK Error: a model with its running number and the eight digits of its rule, the field and the code.
-pub fn put_error(out: &mut [u8], at: usize, model: &[u8; 120], n: u32, text: u64)
+pub fn put_error(out: &mut [u8], at: usize, model: &[u8; 120], n: u32, text: [u8; 8])
     ensures { out.new ≡ placed out.old at (error_by model.now n text) }
 {
     put(out, at, &error_by(model, n, text))

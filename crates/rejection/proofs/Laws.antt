@@ -1,8 +1,8 @@
 -- The answer for a file, and the whole rejection. Assumes nothing.
 use mathlib.Core.Path.{◌≡◌, refl, sym, ap, ◌∙◌}
 use mathlib.Core.Bool.{Bool, cond}
-use mathlib.Core.List.{List, ◌++◌}
-use Prim.Native.Nat.{ℕ, ◌+◌, ◌*◌, ◌/◌, ◌%◌, ◌≤◌, ◌<◌}
+use mathlib.Core.List.{List}
+use Prim.Native.Nat.{ℕ, ◌+◌, ◌*◌, ◌≤◌, ◌<◌}
 use native.Mathlib.Omega.{arith}
 use borrow.Author.Tests.{lt-ltb, le-ltb, le-leb}
 use lib.ListN.{length, get_or, drop}
@@ -14,10 +14,9 @@ use Rattle.paper.specs.Bytes.{Bytes, written, zeros, blanks, laid}
 use Rattle.paper.specs.File.{key_record, error_record, code_list, whole_errors, rejection}
 use Rattle.paper.proofs.Laws.{next, ended}
 use Rattle.paper.proofs.RecordSizes.{length-key, length_error, length-rejection}
-use Rattle.text.specs.Words.{little}
 use Rattle.text.proofs.Laying.{laid_append}
 use Rattle.record.specs.Parts.{error_model, error_by, placed}
-use Rattle.record.proofs.Laws.{error_said}
+use Rattle.record.proofs.Laws.{error_said, eight_digits}
 use Rattle.rejection.specs.Given.{Given}
 
 -- n bytes of a file do not fit, or do and stand at the front
@@ -38,14 +37,14 @@ laid_as o out r at h e = e ∙ ap (λ (b : Bool). cond b (laid out at r) out) (l
 abbrev pub error_for : ℕ → ℕ → Bytes
 error_for n code = error_record (zeros 9) n (blanks 6) (blanks 6) (zeros 5) (zeros 7) code
 
--- the n-th, by its model and the text of its code
-pub code_laid : (out o model : Bytes) (n code text : ℕ) → 120 * n + 120 ≤ length out
-    → model ≡ error_model (zeros 9) (blanks 6) (blanks 6) (zeros 5) (zeros 7)
-    → text ≡ little (written 4 (code / 10000) ++ written 4 (code % 10000))
+-- the n-th, by its model and its code's digits
+pub code_laid : (out o model : Bytes) (n code : ℕ) (text : Bytes) → 120 * n + 120 ≤ length out
+    → model ≡ error_model (zeros 9) (blanks 6) (blanks 6) (zeros 5) (zeros 7) → text ≡ written 8 code
     → o ≡ placed out (120 * n) (error_by model n text) → o ≡ laid out (120 * n) (error_for n code)
 code_laid out o model n code text h em et e =
     laid_as o out (error_for n code) (120 * n) h
-    (e ∙ ap (placed out (120 * n)) (ap (λ (m : Bytes). error_by m n text) em ∙ error_said (zeros 9) n (blanks 6) (blanks 6) (zeros 5) (zeros 7) code text et))
+    (e ∙ ap (placed out (120 * n)) (ap (λ (m : Bytes). error_by m n text) em
+    ∙ error_said (zeros 9) n (blanks 6) (blanks 6) (zeros 5) (zeros 7) code text (et ∙ eight_digits code)))
 
 module _ (out e : Bytes) (codes : List ℕ) (i : ℕ) (v : laid out (120 * (i + 1)) (whole_errors (i + 1) (drop i codes)) ≡ e) where
   pub next_code : (o : Bytes) → i < length codes → o ≡ laid out (120 * (i + 1)) (error_for (i + 1) (get_or codes i 0))

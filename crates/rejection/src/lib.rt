@@ -5,7 +5,6 @@ ghost use Rattle.std.specs.Prelude.{◌≡◌, ◌++◌, ◌+◌, ◌*◌, ◌/�
 ghost use Rattle.paper.specs.Bytes.{written, zeros, blanks, laid};
 ghost use Rattle.paper.specs.File.{error_record, code_list, whole_errors, rejection};
 ghost use Rattle.paper.specs.Answer.{room_for, left_by};
-ghost use Rattle.text.specs.Words.{little};
 
 use paper::{Codes, Refusal, Verdict};
 use record::Key;
@@ -23,13 +22,6 @@ fn codes_of(codes: Codes) -> &'static [u32]
     }
 }
 
-// The eight digits of a code, the field 0000 before it, as one number, the first digit lowest.
-fn text_of(code: u32) -> u64
-    ensures { result ≡ little (written 4 (code / 10000) ++ written 4 (code % 10000)) }
-{
-    u64::from_le_bytes(text::written::<8>(u64::from(code)))
-}
-
 // The n-th Error record, for a code.
 #[tactic(auto, using(crate::proofs::Laws::code_laid))]
 fn put_code(out: &mut [u8], n: u32, code: u32)
@@ -37,7 +29,8 @@ fn put_code(out: &mut [u8], n: u32, code: u32)
     ensures { out.new ≡ laid out.old (120 * n) (error_record (zeros 9) n (blanks 6) (blanks 6) (zeros 5) (zeros 7) code) }
 {
     let model = record::error_model(b"000000000", b"      ", b"      ", b"00000", b"0000000");
-    record::put_error(out, 120 * n as usize, &model, n, text_of(code))
+    let text = text::written::<8>(u64::from(code));
+    record::put_error(out, 120 * n as usize, &model, n, text)
 }
 
 // An Error record a code.

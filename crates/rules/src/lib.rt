@@ -1,26 +1,24 @@
 // What a record after a document's first breaks: a set, with a bit for a rule in the order of its kind's table, the first rule the lowest
-// bit; and the text of a rule by its place in the table.
+// bit; and the rules of a kind, in its table's order.
 #![tactic(auto)]
 
-ghost use Rattle.std.specs.Prelude.{◌≡◌, get_or};
+ghost use Rattle.std.specs.Prelude.{◌≡◌};
 ghost use Rattle.paper.specs.Conditions.{rules_of};
-ghost use Rattle.text.specs.Words.{little};
-ghost use Rattle.words.specs.Tables.{rule_text};
 ghost use Rattle.rules.specs.Sets.{others_of};
 
 use paper::{Facts, Kind};
 
-// The text of the rule at a place of a kind's table, its field and its code: eight bytes, the first one lowest.
-pub fn text_at(kind: Kind, i: usize) -> u64
-    ensures { result ≡ little (rule_text (get_or (rules_of kind) i 0)) }
+// The rules of a kind in its table's order, each its field and its code.
+pub fn table(kind: Kind) -> &'static [u32]
+    ensures { result.now ≡ rules_of kind }
 {
     match kind {
-        Kind::Form => form::text_at(i),
-        Kind::Payment => payment::text_at(i),
-        Kind::Auth => auth::text_at(i),
-        Kind::Summary => summary::text_at(i),
-        Kind::Unknown => words::text_at(&[0_0044], i),
-        Kind::TranA | Kind::TranB | Kind::Recap | Kind::Stray => words::text_at(&[], i),
+        Kind::Form => form::table(),
+        Kind::Payment => payment::table(),
+        Kind::Auth => auth::table(),
+        Kind::Summary => summary::table(),
+        Kind::Unknown => &[0_0044],
+        Kind::TranA | Kind::TranB | Kind::Recap | Kind::Stray => &[],
     }
 }
 

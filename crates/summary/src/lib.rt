@@ -1,13 +1,11 @@
 // The rules of a summary: which of them a record breaks.
 #![tactic(auto)]
 
-ghost use Rattle.std.specs.Prelude.{◌≡◌, ◌&&◌, cond, [], ◌∷◌, ℕ, ◌/◌, ◌%◌, eqb, length, get_or};
+ghost use Rattle.std.specs.Prelude.{◌≡◌, ◌&&◌, cond, [], ◌∷◌, ℕ, ◌/◌, ◌%◌, eqb, length};
 ghost use Rattle.paper.specs.declared.Layout.TheVariants.{LSummary};
 ghost use Rattle.paper.specs.Bytes.{present};
 ghost use Rattle.paper.specs.Layouts.{field};
-ghost use Rattle.text.specs.Words.{little};
 ghost use Rattle.words.specs.Sets.{bits_on, bits_by};
-ghost use Rattle.words.specs.Tables.{rule_text};
 ghost use Rattle.paper.specs.Conditions.{summary_fillers, wrong_year, not_time, summary_holds, summary_rules};
 
 use layout::{field_of, through};
@@ -142,10 +140,10 @@ static RULES: [u32; 44] = [
     260_0491, 270_0010, 270_0491, 280_0010, 280_0491, 290_0014,
 ];
 
-// The text of the rule at a place of the table, its field and its code: eight bytes, the first one lowest.
+// The rules in the table's order, each its field and its code.
 #[tactic(auto, unfolding(paper::specs::Conditions::summary_rules))]
-pub fn text_at(i: usize) -> u64
-    ensures { result ≡ little (rule_text (get_or summary_rules i 0)) }
+pub fn table() -> &'static [u32]
+    ensures { result.now ≡ summary_rules }
 {
-    words::text_at(&RULES, i)
+    &RULES
 }

@@ -2,11 +2,10 @@
 // tell, who has the table of kinds. A rule in a set.
 #![tactic(auto)]
 
-ghost use Rattle.std.specs.Prelude.{◌≡◌, not, ◌&&◌, ◌||◌, ◌≤◌, length, get_or, take};
+ghost use Rattle.std.specs.Prelude.{◌≡◌, not, ◌&&◌, ◌||◌, ◌≤◌, length, take};
 ghost use Rattle.paper.specs.Bytes.{bytes, bit, same, before, part, present, all_zeros, all_nines};
 ghost use Rattle.paper.specs.Conditions.{control_in, not_x, one_of, wrong_page, wrong_and, late, is_foreign, last_pay_day};
 ghost use Rattle.date.specs.Day.{is_day};
-ghost use Rattle.text.specs.Words.{little};
 ghost use Rattle.words.specs.Sets.{bit_on};
 ghost use Rattle.words.specs.Tables.{rule_text};
 
@@ -142,11 +141,10 @@ pub fn and_rule(is_broken: bool, later: u64) -> u64
     later << 1 | u64::from(is_broken)
 }
 
-// The text of the rule at a place of a table, its field and its code: eight digits as one number, the first one lowest; zeros past the end.
+// What is written of a rule: eight digits, its field and its code.
 #[tactic(auto, unfolding(crate::specs::Tables::rule_text))]
-pub fn text_at(rules: &[u32], i: usize) -> u64
-    ensures { result ≡ little (rule_text (get_or rules.now i 0)) }
+pub fn text_of(rule: u32) -> [u8; 8]
+    ensures { result ≡ rule_text rule }
 {
-    let rule = rules.get(i).copied().unwrap_or(0);
-    u64::from_le_bytes(text::written::<8>(u64::from(rule)))
+    text::written(u64::from(rule))
 }
