@@ -7,7 +7,7 @@ use native.Mathlib.Omega.{arith}
 use borrow.Author.Tests.{eqb-true, ltb-true, ltb-false}
 use lib.Dec.{eqb, ltb}
 use lib.ListN.{length, take, drop, length-map}
-use lib.Seq.{length-sets, take-nil, take_all}
+use lib.Seq.{take-nil, take_all}
 use Rattle.paper.specs.declared.Broken.{Broken}
 use Rattle.paper.specs.declared.Findings.{Findings}
 use Rattle.paper.specs.declared.Kind.{Kind}

@@ -70,7 +70,7 @@ unpaid Stray o = refl
 
 -- ONE DOCUMENT ON: j is what is said of the one at a place
 module _ (L : Lines) (date t : Bytes) (at : ℕ) (p : Trail) (g : Going t at p) (more : 0 < length (docs_of (records (drop at t))))
-    (r : Judgment) (er : r ≡ judgment_of at (here L date t at p)) where
+    (j : Judgment) (ej : j ≡ judgment_of at (here L date t at p)) where
   abbrev T : Turn
   T = here L date t at p
 

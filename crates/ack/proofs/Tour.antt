@@ -1,6 +1,6 @@
 -- The loops over the documents. Assumes nothing.
 use mathlib.Core.Path.{◌≡◌, refl, sym, ap, ◌∙◌, subst}
-use mathlib.Core.Bool.{Bool, true, cond}
+use mathlib.Core.Bool.{Bool, true, false, cond}
 use mathlib.Core.List.{List, [], ◌∷◌, ◌++◌, map}
 use Prim.Native.Nat.{ℕ, ◌+◌, ◌-◌, ◌*◌, ◌≤◌, ◌<◌, min}
 use native.Mathlib.Omega.{arith}
@@ -49,6 +49,10 @@ tour_start t n b = record {
 
 pub tour_more : (t : Bytes) (n i at : ℕ) (p : Trail) → Touring t n i at p → i < n → 0 < length (docs_of (records (drop at t)))
 tour_more t n i at p o h = omega (arith, o.count)
+
+pub bit_le : (b : Bool) → bit b ≤ 1
+bit_le true = omega arith
+bit_le false = omega arith
 
 nothing : {A : Type 0} (l : List A) → length l ≡ 0 → l ≡ []
 nothing [] h = refl

@@ -68,7 +68,7 @@ fn has_room(t: &[u8], n: usize, reference: Reference, date: &[u8], room: usize) 
 
 // The record sets of all documents, written after the 240 bytes of TRANA and TRANB.
 fn write_sets(t: &[u8], n: usize, reference: Reference, date: &[u8], out: &mut [u8]) -> Done
-    requires { Begins t.now n × (240 + length (sets_in (turns_in (searched (lent reference.entry)) date.now t.now)) ≤ length out.old) }
+    requires { Begins t.now n × (240 + length (sets_in (turns_in (searched (lent reference)) date.now t.now)) ≤ length out.old) }
     ensures { Written (turns_in (searched (lent reference.entry)) date.now t.now) 240 out.old out.new result }
 {
     let mut list: ArrayVec<Broken, 96> = ArrayVec::new();
@@ -96,7 +96,7 @@ fn put_file(
     name: &[u8],
     out: &mut [u8],
 ) -> usize
-    requires { Begins t.now n × (length (judged_file (searched (lent reference.entry)) date.now name.now t.now) ≤ length out.old) }
+    requires { Begins t.now n × (length (judged_file (searched (lent reference)) date.now name.now t.now) ≤ length out.old) }
     ensures value { result ≡ length (judged_file (searched (lent reference.entry)) date.now name.now t.now) }
     ensures out_after { out.new ≡ laid out.old 0 (judged_file (searched (lent reference.entry)) date.now name.now t.now) }
 {

@@ -1,4 +1,4 @@
-use Rattle.std.proofs.Common.{length, sym, ap, ◌∙◌, arith}
+use Rattle.std.proofs.Common.{sym, arith}
 use borrow.Author.Tests.{leb-true, leb-false}
 use Rattle.paper.proofs.Flow.{by_true, by_false}
 use Rattle.paper.specs.Pack.{lent}
