@@ -10,7 +10,7 @@ use kinds::{
     ACCOUNT, ALNUM, CITY, LETTER, NAME, STREET, all_of, count_of, first_not_of, is_in, some_of,
 };
 
-// Two spaces stand right before another byte. To the end in each case, as many windows are then looked at at once.
+// Two spaces stand right before another byte. The fold has no early exit, and is several times as fast so.
 fn has_gap(s: &[u8]) -> bool
     ensures { result ≡ gap s.now }
 {
@@ -27,7 +27,7 @@ fn spaced(s: &[u8]) -> bool
     s.first().is_some_and(|x| *x != b' ') && !has_gap(s)
 }
 
-// A byte a stands right before a byte b. To the end in each case too.
+// A byte a stands right before a byte b, without an early exit too.
 fn beside(s: &[u8], a: u8, b: u8) -> bool
     ensures { result ≡ beside (λ x. eqb x a) (λ x. eqb x b) s.now }
 {
