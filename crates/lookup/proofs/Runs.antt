@@ -31,22 +31,20 @@ pub no_rows : (m w : ℕ) (s : Bytes) → m ≤ 0 → rows m w s ≡ []
 no_rows zero w s h = refl
 no_rows (suc m) w s h = absurd (not-suc-le-zero h)
 
+-- `==` of slices
+pub equal_same : (a b : Bytes) → pointwise eqb a b ≡ same b a
+equal_same [] [] = refl
+equal_same [] (y ∷ b) = refl
+equal_same (x ∷ a) [] = refl
+equal_same (x ∷ a) (y ∷ b) = λ i. turned (eqb x y) refl i && equal_same a b i
+  where
+    turned : (q : Bool) → eqb x y ≡ q → q ≡ eqb y x
+    turned true e = sym (eq-eqb y x (sym (eqb-true x y e)))
+    turned false e = sym (ne_eqb y x (λ f. eqb-false x y e (sym f)))
+
 -- what begins with the key has it
 pub starts_keyed : (key l : Bytes) → starts_with eqb l key ≡ keyed key l
-starts_keyed key l = go key (take (length key) l)
-  where
-    turned : (x y : ℕ) → eqb x y ≡ eqb y x
-    turned x y = go (eqb x y) refl
-      where
-        go : (q : Bool) → eqb x y ≡ q → q ≡ eqb y x
-        go true e = sym (eq-eqb y x (sym (eqb-true x y e)))
-        go false e = sym (ne_eqb y x (λ f. eqb-false x y e (sym f)))
-
-    go : (a b : Bytes) → pointwise eqb a b ≡ same b a
-    go [] [] = refl
-    go [] (y ∷ b) = refl
-    go (x ∷ a) [] = refl
-    go (x ∷ a) (y ∷ b) = λ i. turned x y i && go a b i
+starts_keyed key l = equal_same key (take (length key) l)
 
 -- how many lines a list of rows has
 pub length-rows : (n w : ℕ) (s : Bytes) → length (rows n w s) ≡ n
