@@ -114,13 +114,25 @@ pub fn broken(form: &[u8], own: &[u8], bank: &[u8], before: usize) -> u64
 }
 
 // The rules in their order, each its field and its code.
-static RULES: [u32; 14] = [
-    0_0044, 0_0045, 3_0004, 10_0010, 10_0395, 20_0010, 20_0395, 30_0396, 40_0396, 50_0396, 60_0010,
-    70_0010, 80_0397, 90_0010,
+static RULES: [[u8; 8]; 14] = [
+    *b"00000044",
+    *b"00000045",
+    *b"00030004",
+    *b"00100010",
+    *b"00100395",
+    *b"00200010",
+    *b"00200395",
+    *b"00300396",
+    *b"00400396",
+    *b"00500396",
+    *b"00600010",
+    *b"00700010",
+    *b"00800397",
+    *b"00900010",
 ];
 
 // The text of the rule at a place of the table, its field and its code: eight bytes, the first one lowest.
-#[tactic(auto, unfolding(paper::specs::Conditions::payment_rules))]
+#[tactic(auto, unfolding(paper::specs::Conditions::payment_rules, words::specs::Tables::rule_text), using(words::proofs::Tables::texts_at))]
 pub fn text_at(i: usize) -> u64
     ensures { result ≡ little (rule_text (get_or payment_rules i 0)) }
 {

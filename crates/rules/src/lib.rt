@@ -11,6 +11,7 @@ ghost use Rattle.rules.specs.Sets.{others_of};
 use paper::{Facts, Kind};
 
 // The text of the rule at a place of a kind's table, its field and its code: eight bytes, the first one lowest.
+#[tactic(auto, unfolding(words::specs::Tables::rule_text), using(words::proofs::Tables::texts_at))]
 pub fn text_at(kind: Kind, i: usize) -> u64
     ensures { result ≡ little (rule_text (get_or (rules_of kind) i 0)) }
 {
@@ -19,7 +20,7 @@ pub fn text_at(kind: Kind, i: usize) -> u64
         Kind::Payment => payment::text_at(i),
         Kind::Auth => auth::text_at(i),
         Kind::Summary => summary::text_at(i),
-        Kind::Unknown => words::text_at(&[0_0044], i),
+        Kind::Unknown => words::text_at(&[*b"00000044"], i),
         Kind::TranA | Kind::TranB | Kind::Recap | Kind::Stray => words::text_at(&[], i),
     }
 }

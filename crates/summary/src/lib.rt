@@ -68,22 +68,26 @@ fn and_reserves(fields: &[u32], own: &[u8], later: u64) -> u64
 }
 
 // The rules on 0050 to 0090, before later ones.
-#[tactic(auto, unfolding(paper::specs::Conditions::summary_holds, paper::specs::Conditions::pick, paper::specs::Conditions::summary0010))]
+#[tactic(auto, unfolding(paper::specs::Conditions::summary_holds, paper::specs::Conditions::pick, paper::specs::Conditions::summary0010, paper::specs::Conditions::summary_rules), using(crate::proofs::Laws::kept_50))]
 fn of_50_to_90(own: &[u8], later: u64) -> u64
     ensures { result ≡ bits_on (λ (rule : ℕ). summary_holds (rule / 10000) (rule % 10000) [] own.now) (500014 ∷ 550014 ∷ 600014 ∷ 630014 ∷ 700014 ∷ 750014 ∷ 800014 ∷ 900010 ∷ []) later }
 {
     let set = words::and_rule(!kinds::digits(field_of(LSummary, 90, own)), later);
+    if text::blank(through(LSummary, 50, 80, own)) {
+        // None of the other seven: the set moves by as many places.
+        return set << 7;
+    }
     and_reserves(&[50, 55, 60, 63, 70, 75, 80], own, set)
 }
 
 // The rules on 0100 to 0250, all in reserve, before later ones.
-#[tactic(auto, unfolding(paper::specs::Conditions::summary_holds, paper::specs::Conditions::pick, paper::specs::Conditions::summary_rules), using(crate::proofs::Laws::reserves_kept))]
+#[tactic(auto, unfolding(paper::specs::Conditions::summary_holds, paper::specs::Conditions::pick, paper::specs::Conditions::summary_rules), using(crate::proofs::Laws::kept_100))]
 fn of_reserves(own: &[u8], later: u64) -> u64
     ensures { result ≡ bits_on (λ (rule : ℕ). summary_holds (rule / 10000) (rule % 10000) [] own.now) (1000014 ∷ 1100014 ∷ 1200014 ∷ 1300014 ∷ 1330014 ∷ 1350014 ∷ 1400014 ∷ 1500014 ∷ 1700014 ∷ 1800014 ∷ 1850014 ∷ 1880014 ∷ 1890014 ∷ 1900014 ∷ 1950014 ∷ 2000014 ∷ 2100014 ∷ 2150014 ∷ 2170014 ∷ 2190014 ∷ 2200014 ∷ 2500014 ∷ []) later }
 {
-    let set = and_reserves(&[250], own, later);
+    let set = words::and_rule(!text::blank(field_of(LSummary, 250, own)), later);
     if text::blank(through(LSummary, 100, 220, own)) {
-        // None of the other 21: the set moves by 21 places, and what would pass the 64th is lost.
+        // None of the other 21: the set moves by as many places, and what would pass the 64th is lost.
         return set << 21;
     }
     and_reserves(
@@ -109,7 +113,7 @@ fn of_260_to_290(own: &[u8], later: u64) -> u64
     let no_zone = text::blank(zone);
     // 0491: some of the three present, at each that is blank.
     let some = !no_day || !no_time || !no_zone;
-    let set = and_reserves(&[290], own, later);
+    let set = words::and_rule(!text::blank(field_of(LSummary, 290, own)), later);
     let set = words::and_rule(no_zone && some, set);
     let set = words::and_rule(!words::one_of(b"ECGMPAH ", zone), set);
     let set = words::and_rule(no_time && some, set);
@@ -134,16 +138,54 @@ pub fn broken(form: &[u8], own: &[u8]) -> u64
 }
 
 // The rules in their order, each its field and its code.
-static RULES: [u32; 44] = [
-    0_0045, 2_0004, 10_0027, 20_0010, 20_0027, 40_0010, 50_0014, 55_0014, 60_0014, 63_0014,
-    70_0014, 75_0014, 80_0014, 90_0010, 100_0014, 110_0014, 120_0014, 130_0014, 133_0014, 135_0014,
-    140_0014, 150_0014, 170_0014, 180_0014, 185_0014, 188_0014, 189_0014, 190_0014, 195_0014,
-    200_0014, 210_0014, 215_0014, 217_0014, 219_0014, 220_0014, 250_0014, 260_0010, 260_0490,
-    260_0491, 270_0010, 270_0491, 280_0010, 280_0491, 290_0014,
+static RULES: [[u8; 8]; 44] = [
+    *b"00000045",
+    *b"00020004",
+    *b"00100027",
+    *b"00200010",
+    *b"00200027",
+    *b"00400010",
+    *b"00500014",
+    *b"00550014",
+    *b"00600014",
+    *b"00630014",
+    *b"00700014",
+    *b"00750014",
+    *b"00800014",
+    *b"00900010",
+    *b"01000014",
+    *b"01100014",
+    *b"01200014",
+    *b"01300014",
+    *b"01330014",
+    *b"01350014",
+    *b"01400014",
+    *b"01500014",
+    *b"01700014",
+    *b"01800014",
+    *b"01850014",
+    *b"01880014",
+    *b"01890014",
+    *b"01900014",
+    *b"01950014",
+    *b"02000014",
+    *b"02100014",
+    *b"02150014",
+    *b"02170014",
+    *b"02190014",
+    *b"02200014",
+    *b"02500014",
+    *b"02600010",
+    *b"02600490",
+    *b"02600491",
+    *b"02700010",
+    *b"02700491",
+    *b"02800010",
+    *b"02800491",
+    *b"02900014",
 ];
 
 // The text of the rule at a place of the table, its field and its code: eight bytes, the first one lowest.
-#[tactic(auto, unfolding(paper::specs::Conditions::summary_rules))]
 pub fn text_at(i: usize) -> u64
     ensures { result ≡ little (rule_text (get_or summary_rules i 0)) }
 {

@@ -1,17 +1,19 @@
--- The set of a table's broken rules. Assumes nothing.
+-- The set of a table's broken rules, and their texts. Assumes nothing.
 use Prim.Native.Nat.{ℕ, ◌+◌, ◌*◌, ◌%◌, ◌^◌}
 use mathlib.Core.Bool.{Bool, true, false}
 use mathlib.Core.List.{List, [], ◌∷◌}
 use mathlib.Core.Path.{◌≡◌, refl, ap, ◌∙◌}
 use native.Mathlib.Omega.{arith}
-use Rattle.std.proofs.Common.{fold, reverse}
+use Rattle.std.proofs.Common.{fold, reverse, map, get_or}
+use Rattle.std.proofs.Math.ListN.{get_or-map}
 use Rattle.std.proofs.lemmas.Nat.{or_shifted}
 use Rattle.std.proofs.lemmas.List.{reverse-append}
 use Rattle.std.proofs.lemmas.List.Sums.{fold_push}
 use Rattle.std.specs.Int.{from_bool}
 use Rattle.std.specs.Int.RustNames.{bit_or}
-use Rattle.paper.specs.Bytes.{bit}
+use Rattle.paper.specs.Bytes.{bit, zeros}
 use Rattle.words.specs.Sets.{bit_on, bits_on}
+use Rattle.words.specs.Tables.{rule_text}
 
 -- the bits of a set move by one place, and the lowest is free for a rule
 pub bit_first : (b : Bool) (t : ℕ) → bit_or (t * 2 % 18446744073709551616) (from_bool b) ≡ bit_on b t
@@ -30,3 +32,8 @@ fold_bits p [] later = refl
 fold_bits p (x ∷ s) later =
     let f : ℕ → ℕ → ℕ = λ (set y : ℕ). bit_on (p y) set in
     ap (fold f later) (reverse-append (x ∷ []) s) ∙ fold_push f later (reverse s) x ∙ ap (bit_on (p x)) (fold_bits p s later)
+
+-- the texts of a table's rules; past its end the text of the number 0
+pub texts_at : (rules : List ℕ) (i : ℕ) → get_or (map rule_text rules) i (zeros 8) ≡ rule_text (get_or rules i 0)
+unfolding rule_text
+texts_at rules i = get_or-map rule_text rules i 0

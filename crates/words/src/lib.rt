@@ -3,12 +3,11 @@
 #![tactic(auto)]
 
 ghost use Rattle.std.specs.Prelude.{◌≡◌, not, ◌&&◌, ◌||◌, ◌≤◌, length, get_or, take};
-ghost use Rattle.paper.specs.Bytes.{bytes, bit, same, before, part, present, all_zeros, all_nines};
+ghost use Rattle.paper.specs.Bytes.{bytes, bit, same, before, part, present, all_zeros, all_nines, zeros};
 ghost use Rattle.paper.specs.Conditions.{control_in, not_x, one_of, wrong_page, wrong_and, late, is_foreign, last_pay_day};
 ghost use Rattle.date.specs.Day.{is_day};
 ghost use Rattle.text.specs.Words.{little};
 ghost use Rattle.words.specs.Sets.{bit_on};
-ghost use Rattle.words.specs.Tables.{rule_text};
 
 // 0010: not X or blank.
 #[tactic(auto, unfolding(paper::specs::Conditions::not_x))]
@@ -143,10 +142,8 @@ pub fn and_rule(is_broken: bool, later: u64) -> u64
 }
 
 // The text of the rule at a place of a table, its field and its code: eight digits as one number, the first one lowest; zeros past the end.
-#[tactic(auto, unfolding(crate::specs::Tables::rule_text))]
-pub fn text_at(rules: &[u32], i: usize) -> u64
-    ensures { result ≡ little (rule_text (get_or rules.now i 0)) }
+pub fn text_at(texts: &[[u8; 8]], i: usize) -> u64
+    ensures { result ≡ little (get_or texts.now i (zeros 8)) }
 {
-    let rule = rules.get(i).copied().unwrap_or(0);
-    u64::from_le_bytes(text::written::<8>(u64::from(rule)))
+    u64::from_le_bytes(texts.get(i).copied().unwrap_or(*b"00000000"))
 }
