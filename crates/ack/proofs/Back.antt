@@ -7,7 +7,8 @@ use native.Mathlib.Omega.{arith}
 use borrow.Author.Tests.{eqb-true, ltb-true, ltb-false}
 use lib.Dec.{eqb, ltb}
 use lib.ListN.{length, take, drop, length-map}
-use lib.Seq.{length-sets, take-nil, take_all}
+use lib.Seq.{take-nil, take_all}
+use Rattle.paper.specs.declared.Broken.{Broken}
 use Rattle.paper.specs.declared.Findings.{Findings}
 use Rattle.paper.specs.declared.Kind.{Kind}
 use Rattle.paper.specs.declared.Kind.TheVariants.{TranA, TranB, Form, Unknown, Payment, Auth, Summary, Recap, Stray}
@@ -23,12 +24,10 @@ use Rattle.walk.proofs.Docs.{own_here}
 use Rattle.walk.proofs.Facts.{head_fits, head_left, goes_some, others_here, main_here}
 use Rattle.rules.specs.Sets.{chosen}
 use Rattle.rules.proofs.Laws.{chosen_those, bits_none, few_rules}
-use Rattle.judge.specs.Kept.{Broke, broke_if, triple, total, listed, counted}
+use Rattle.judge.specs.Kept.{broke_if, total, listed, counted}
 use Rattle.judge.specs.Judged.{set_in, broke_from}
-use Rattle.judge.proofs.Kept.{keeps_first, take_append}
 use Rattle.judge.proofs.Found.{Standing, found_of}
-use Rattle.sets.specs.Set.{found_in, found_from, firsts}
-use Rattle.sets.proofs.Laws.{kind_back, firsts_take}
+use Rattle.sets.specs.Set.{found_in, found_from}
 
 -- EACH RECORD STANDS IN THE TRANSMISSION
 
@@ -77,11 +76,11 @@ doc_stands t at o h =
 
 -- EACH ROW HAS A FINDING
 
-abbrev pub Full : Bytes → List Broke → Type 0
+abbrev pub Full : Bytes → List Broken → Type 0
 Full t [] = Unit {0}
 Full t (b ∷ bs) = (1 ≤ length (found_of t b)) × Full t bs
 
-full_append : (t : Bytes) (xs ys : List Broke) → Full t xs → Full t ys → Full t (xs ++ ys)
+full_append : (t : Bytes) (xs ys : List Broken) → Full t xs → Full t ys → Full t (xs ++ ys)
 full_append t [] ys f g = g
 full_append t (x ∷ xs) ys f g = (f.0, full_append t xs ys f.1 g)
 
@@ -107,9 +106,17 @@ all_full t s place pays aths (i ∷ l) =
     full_append t (broke_if place k (set_in k (view s i.bytes i.bank pays aths))) _ (one_full t place k (view s i.bytes i.bank pays aths))
     (all_full t s (place + length i.bytes) (pays + bit (is Payment k)) (aths + bit (is Auth k)) l)
 
+take_append : (n : ℕ) (xs ys : List Finding) → take n (xs ++ ys) ≡ take n xs ++ take (n - length xs) ys
+take_append zero [] ys = refl
+take_append zero (x ∷ xs) ys = ap (λ (k : ℕ). take k ys) (let e : 0 ≡ 0 - suc (length xs) = omega arith in e)
+take_append (suc n) [] ys = ap (λ (k : ℕ). take k ys) (let e : suc n ≡ suc n - 0 = omega arith in e)
+take_append (suc n) (x ∷ xs) ys =
+    let e : n - length xs ≡ suc n - suc (length xs) = omega arith in
+    ap (λ (l : List Finding). x ∷ l) (take_append n xs ys) ∙ ap (λ (k : ℕ). x ∷ (take n xs ++ take k ys)) e
+
 -- so the first n rows have the first n findings
-enough : (t : Bytes) (m n : ℕ) (l : List Broke) → m ≤ n → Full t l → take m (joined (map (found_of t) (take n l))) ≡ take m (joined (map (found_of t) l))
-enough t m n [] h f = ap (λ (l : List Broke). take m (joined (map (found_of t) l))) (take-nil n)
+enough : (t : Bytes) (m n : ℕ) (l : List Broken) → m ≤ n → Full t l → take m (joined (map (found_of t) (take n l))) ≡ take m (joined (map (found_of t) l))
+enough t m n [] h f = ap (λ (l : List Broken). take m (joined (map (found_of t) l))) (take-nil n)
 enough t zero zero (x ∷ l) h f = refl
 enough t (suc m) zero (x ∷ l) h f = absurd (omega arith)
 enough t m (suc n) (x ∷ l) h f =
@@ -120,13 +127,10 @@ enough t m (suc n) (x ∷ l) h f =
 
 -- BACK
 
-row_back : (t : Bytes) (b : Broke) → found_in t (triple b) ≡ found_of t b
+all_back : (t : Bytes) (l : List Broken) → found_from t l ≡ joined (map (found_of t) l)
 unfolding found_in
-row_back t b = ap (λ (k : Kind). map (mark k (drop b.place t)) (chosen b.set (rules_of k))) (kind_back b.kind)
-
-all_back : (t : Bytes) (l : List Broke) → found_from t (map triple l) ≡ joined (map (found_of t) l)
 all_back t [] = refl
-all_back t (b ∷ l) = λ i. row_back t b i ++ all_back t l i
+all_back t (b ∷ l) = ap (λ (r : List Finding). found_of t b ++ r) (all_back t l)
 
 take-most : (n : ℕ) (l : List Finding) → take (min n (length l)) l ≡ take n l
 take-most n l = by (ltb n (length l)) refl
@@ -140,23 +144,15 @@ take-most n l = by (ltb n (length l)) refl
         let w : length l ≤ n = ltb-false n (length l) h in
         take_all (min n (length l)) l (omega arith) ∙ sym (take_all n l w)
 
-pub listed_long : (row : List (List ℕ)) (l : List Broke) → length (listed row l) ≡ length row
-unfolding listed
-listed_long row l = length-sets row 0 (map triple (take 96 l))
-
--- what is written of a row where these records are listed
-pub rows_back : (t : Bytes) (l : List Broke) (found : List Finding) (row x : List (List ℕ)) (f : Findings) → length row ≡ 96 → x ≡ listed row l → f ≡ counted l
-    → Full t l → joined (map (found_of t) l) ≡ found → total l ≡ length found → take (min 96 f.kept) (found_from t (firsts (min 96 f.rows) x)) ≡ take 96 found
-unfolding counted
-rows_back t l found row x f w e c full same count =
-    let r : f.rows ≡ min 96 (length l) = ap (λ (y : Findings). y.rows) c in
+-- what is written of a list where these records are listed
+pub rows_back : (t : Bytes) (l : List Broken) (found : List Finding) (x : List Broken) (f : Findings) → x ≡ listed l → f ≡ counted l
+    → Full t l → joined (map (found_of t) l) ≡ found → total l ≡ length found → take (min 96 f.kept) (found_from t x) ≡ take 96 found
+unfolding counted listed
+rows_back t l found x f e c full same count =
     let k : f.kept ≡ min 96 (total l) = ap (λ (y : Findings). y.kept) c in
-    let r' : min 96 f.rows ≡ (counted l).rows = omega arith in
     let k' : min 96 f.kept ≡ min 96 (length found) = omega arith in
     let low : min 96 (length found) ≤ 96 = omega arith in
-    let long : (counted l).rows ≤ length x = omega (arith, ap length e, listed_long row l) in
-    (λ i. take (k' i) (found_from t (firsts (r' i) x)))
-    ∙ ap (λ (y : List (List ℕ)). take (min 96 (length found)) (found_from t y)) (firsts_take (counted l).rows x long ∙ ap (take (counted l).rows) e ∙ keeps_first row l w)
+    (λ i. take (k' i) (found_from t (e i)))
     ∙ ap (take (min 96 (length found))) (all_back t (take 96 l))
     ∙ enough t (min 96 (length found)) 96 l low full
     ∙ ap (take (min 96 (length found))) same ∙ take-most 96 found

@@ -5,6 +5,7 @@ use mathlib.Core.List.{List, [], ◌∷◌, map}
 use Prim.Native.Nat.{ℕ, ◌+◌, ◌-◌, ◌*◌, ◌≤◌, ◌<◌, min}
 use native.Mathlib.Omega.{arith}
 use lib.ListN.{length, take, drop, length-take}
+use Rattle.paper.specs.declared.Broken.{Broken}
 use Rattle.paper.specs.declared.Facts.{Facts}
 use Rattle.paper.specs.declared.Findings.{Findings}
 use Rattle.paper.specs.declared.Judgment.{Judgment}
@@ -27,15 +28,13 @@ use Rattle.walk.specs.declared.Extent.{Extent}
 use Rattle.walk.specs.Parts.{doc_here, extent_of, Passed}
 use Rattle.walk.proofs.Docs.{passed}
 use Rattle.walk.proofs.Facts.{main_here}
-use Rattle.judge.specs.declared.Past.{Past}
-use Rattle.judge.specs.declared.Judged.{Judged}
-use Rattle.judge.specs.Judged.{broke_from, broke_in, judgment_of, judged_of}
-use Rattle.judge.specs.Seen.{seen_by, next_past, next_row, past_after, row_after}
+use Rattle.judge.specs.Judged.{broke_from, broke_in, judgment_of}
+use Rattle.judge.specs.Seen.{Trail, seen_by, next_past, past_after}
 use Rattle.judge.specs.Kept.{total, listed, counted}
 use Rattle.judge.proofs.Seen.{form_wide, leaves, next_few}
 use Rattle.judge.proofs.Found.{Standing, found_of, total_found, auth_found, rows_found}
 use Rattle.judge.proofs.Ties.{accepted_long, accepted_digits}
-use Rattle.sets.specs.Set.{found_from, firsts, set_as}
+use Rattle.sets.specs.Set.{found_from, set_as}
 use Rattle.sets.proofs.Laws.{set_said}
 use Rattle.ack.proofs.Back.{Full, doc_stands, all_full, rows_back}
 use Rattle.ack.specs.Ties.{here, ahead, Going}
@@ -69,11 +68,11 @@ unpaid Summary o = refl
 unpaid Recap o = refl
 unpaid Stray o = refl
 
--- ONE DOCUMENT ON: r is what is said of the one at a place, and q the row after it
-module _ (L : Lines) (date t : Bytes) (at : ℕ) (p : Past) (row : List ℕ) (g : Going t at p row) (more : 0 < length (docs_of (records (drop at t))))
-    (r : Judged) (er : r ≡ judged_of at (here L date t at p row) p row) where
+-- ONE DOCUMENT ON: j is what is said of the one at a place
+module _ (L : Lines) (date t : Bytes) (at : ℕ) (p : Trail) (g : Going t at p) (more : 0 < length (docs_of (records (drop at t))))
+    (j : Judgment) (ej : j ≡ judgment_of at (here L date t at p)) where
   abbrev T : Turn
-  T = here L date t at p row
+  T = here L date t at p
 
   abbrev s : Bytes
   s = drop at t
@@ -81,14 +80,8 @@ module _ (L : Lines) (date t : Bytes) (at : ℕ) (p : Past) (row : List ℕ) (g 
   abbrev d : Doc
   d = doc_here s
 
-  abbrev j : Judgment
-  j = r.judgment
-
   abbrev size : ℕ
-  size = r.judgment.size
-
-  ej : j ≡ judgment_of at T
-  ej = ap (λ (x : Judged). x.judgment) er
+  size = j.size
 
   abbrev doc : Extent
   doc = extent_of s
@@ -188,11 +181,11 @@ module _ (L : Lines) (date t : Bytes) (at : ℕ) (p : Past) (row : List ℕ) (g 
   full = all_full t (sight_of T) at 0 0 T.subject.items
 
   -- of the list, as the call left it
-  pub set_here : (list x : List (List ℕ)) → length list ≡ 96 → x ≡ listed list (broke_in at T) → set_as (take (at + size - at) s) t date j x ≡ set_of T
+  pub set_here : (x : List Broken) → x ≡ listed (broke_in at T) → set_as (take (at + size - at) s) t date j x ≡ set_of T
   unfolding set_of
-  set_here list x w e =
-      let found : take (min 96 j.found.kept) (found_from t (firsts (min 96 j.found.rows) x)) ≡ take 96 (findings T) =
-      rows_back t (broke_in at T) (findings T) list x j.found w e counts full found_is count_is in
+  set_here x e =
+      let found : take (min 96 j.found.kept) (found_from t x) ≡ take 96 (findings T) =
+      rows_back t (broke_in at T) (findings T) x j.found e counts full found_is count_is in
       let few : length (take 96 (findings T)) ≡ min 96 j.found.kept = omega (arith, kept_is, length-take 96 (findings T)) in
       set_said (take (at + size - at) s) t date j x (take 96 (findings T)) own_here found few
       ∙ set_main (take (at + size - at) s) d.main j.known date j.letter j.facts (take 96 (findings T)) j.found.ath j.births same_fields
@@ -204,45 +197,41 @@ module _ (L : Lines) (date t : Bytes) (at : ℕ) (p : Past) (row : List ℕ) (g 
   -- WHAT IT LEAVES
 
   digits_90 : is_a (letter_of T) ≡ true → digits (field L4868 90 d.main) ≡ true
-  digits_90 h = accepted_digits date (seen_by p row) L s moved.opened h
+  digits_90 h = accepted_digits date (seen_by p) L s moved.opened h
 
-  room : p.n < length row
-  room = omega (arith, g.space, g.short, g.whole, moved.stands.within, moved.some)
+  room : length p.accepted < 762
+  room = omega (arith, g.space, g.short, moved.stands.within, moved.some)
 
-  left : seen_by (past_after T p row) (row_after T p row) ≡ after T
+  left : seen_by (past_after 762 T p) ≡ after T
   left = by (known d) refl
     where
       by : (b : Bool) → known d ≡ b
-          → seen_by (cond b (next_past (identity_of d.main) (letter_of T) p row) p) (cond b (next_row (identity_of d.main) (letter_of T) p row) row) ≡ cond b (after_known (seen d) (is_a (letter_of T)) (seen_by p row)) (seen_by p row)
-      by true e = let w = form_wide d.main (form_size e) in leaves d.main (letter_of T) p row room w.0 w.1 w.2 digits_90
+          → seen_by (cond b (next_past 762 (identity_of d.main) (letter_of T) p) p) ≡ cond b (after_known (seen d) (is_a (letter_of T)) (seen_by p)) (seen_by p)
+      by true e = let w = form_wide d.main (form_size e) in leaves 762 d.main (letter_of T) p room w.0 w.1 w.2 digits_90
       by false e = refl
 
-  few : ((past_after T p row).n ≤ p.n + cond (is_a (letter_of T)) 1 0) × (length (row_after T p row) ≡ length row)
+  few : length (past_after 762 T p).accepted ≤ length p.accepted + cond (is_a (letter_of T)) 1 0
   few = by (known d)
     where
-      by : (b : Bool) → ((cond b (next_past (identity_of d.main) (letter_of T) p row) p).n ≤ p.n + cond (is_a (letter_of T)) 1 0) × (length (cond b (next_row (identity_of d.main) (letter_of T) p row) row) ≡ length row)
-      by true = next_few (identity_of d.main) (letter_of T) p row
-      by false = (omega arith, refl)
+      by : (b : Bool) → length (cond b (next_past 762 (identity_of d.main) (letter_of T) p) p).accepted ≤ length p.accepted + cond (is_a (letter_of T)) 1 0
+      by true = next_few 762 (identity_of d.main) (letter_of T) p
+      by false = omega arith
 
-  -- next is the row as the call left it
-  module _ (next : List ℕ) (en : next ≡ row_after T p row) where
-    eq : r.past ≡ past_after T p row
-    eq = ap (λ (x : Judged). x.past) er
-
-    spaced : (b : Bool) → is_a (letter_of T) ≡ b → r.past.n ≤ p.n + cond b 1 0 → r.past.n * 86 ≤ at + size
-    spaced true e f = omega (arith, g.space, sized, accepted_long date (seen_by p row) L s doc moved.opened e refl)
+  -- next is what it leaves
+  module _ (next : Trail) (en : next ≡ past_after 762 T p) where
+    spaced : (b : Bool) → is_a (letter_of T) ≡ b → length next.accepted ≤ length p.accepted + cond b 1 0 → length next.accepted * 86 ≤ at + size
+    spaced true e f = omega (arith, g.space, sized, accepted_long date (seen_by p) L s doc moved.opened e refl)
     spaced false e f = omega (arith, g.space)
 
-    pub going_on : Going t (at + size) r.past next
+    pub going_on : Going t (at + size) next
     going_on = record {
       short = g.short;
       stands = moved.stands;
-      space = spaced (is_a (letter_of T)) refl (subst (λ (x : Past). x.n ≤ p.n + cond (is_a (letter_of T)) 1 0) (sym eq) few.0);
-      whole = ap length en ∙ few.1 ∙ g.whole;
+      space = spaced (is_a (letter_of T)) refl (subst (λ (x : Trail). length x.accepted ≤ length p.accepted + cond (is_a (letter_of T)) 1 0) (sym en) few);
     }
 
-    pub turn_here : ahead L date t at p row ≡ T ∷ ahead L date t (at + size) r.past next
+    pub turn_here : ahead L date t at p ≡ T ∷ ahead L date t (at + size) next
     unfolding ahead
     turn_here =
-        ap (λ (ds : List Doc). turns date (seen_by p row) (map (asked L) ds)) moved.docs
-        ∙ ap (λ (b : Before). T ∷ turns date b (map (asked L) (docs_of (records (drop (at + size) t))))) (sym left ∙ (λ i. seen_by (sym eq i) (sym en i)))
+        ap (λ (ds : List Doc). turns date (seen_by p) (map (asked L) ds)) moved.docs
+        ∙ ap (λ (b : Before). T ∷ turns date b (map (asked L) (docs_of (records (drop (at + size) t))))) (sym left ∙ ap seen_by (sym en))

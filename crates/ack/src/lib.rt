@@ -2,27 +2,22 @@
 #![tactic(auto)]
 
 ghost use Rattle.std.specs.Prelude.{◌≡◌, ◌+◌, ◌-◌, ◌*◌, ◌/◌, ◌≤◌, min, leb, length};
-ghost use Rattle.paper.specs.Bytes.{bit, laid};
-ghost use Rattle.paper.specs.Pack.{lines_of, blocks_of};
-ghost use Rattle.paper.specs.Judge.{is_a};
-ghost use Rattle.paper.specs.Answer.{prescribed, answer, refusal_number, number_of, length_of, coded, left_by};
+ghost use Rattle.paper.specs.Bytes.{laid};
+ghost use Rattle.paper.specs.Pack.{lent};
+ghost use Rattle.paper.specs.Answer.{prescribed, answer, number_of, length_of, coded, left_by};
 ghost use Rattle.paper.specs.Room.{need, enough};
 ghost use Rattle.judge.specs.Judged.{searched};
 ghost use Rattle.rejection.specs.Given.{Given};
-ghost use Rattle.route.specs.Way.{sequence_for, Ready};
-ghost use Rattle.ack.specs.Ties.{stand_at, Begins, turns_in, sets_in, judged_file, Written};
+ghost use Rattle.route.specs.Way.{sequence_for};
+ghost use Rattle.ack.specs.Ties.{Begins, turns_in, sets_in, judged_file, Written};
 
+use arrayvec::ArrayVec;
 use judge::Past;
-use pack::Places;
-use paper::{Answer, Codes, Layout, Letter, Refusal};
-use route::Route;
+use paper::{Broken, Codes, Layout, Letter, Reference, Refusal};
+use route::Way;
 
-// Where the next document starts, and what it sees of the earlier ones.
-#[derive(Clone, Copy)]
-struct Stand {
-    at: usize,
-    past: Past,
-}
+// The accepted documents of a transmission: each has at least 86 bytes.
+const MOST_ACCEPTED: usize = 762;
 
 // Where the record sets end, and how many documents are accepted.
 #[derive(Clone, Copy)]
@@ -33,58 +28,21 @@ struct Done {
 
 // THE JUDGED FILE
 
-fn one_if(letter: Letter) -> usize
-    ensures { (result ≡ bit (is_a letter)) × (result ≤ 1) }
-{
-    match letter {
-        Letter::A => 1,
-        Letter::R => 0,
-        Letter::D => 0,
-    }
-}
-
-fn stand_at(at: usize, past: Past) -> Stand
-    ensures { result ≡ stand_at at past }
-{
-    Stand { at, past }
-}
-
 // The length of the file: TRANA, TRANB and the Recap, and the record sets of all documents.
-fn file_size(
-    t: &[u8],
-    n: usize,
-    taxpayers: &[u8],
-    banks: &[u8],
-    filed: &[u8],
-    states: &[u8],
-    date: &[u8],
-) -> usize
+fn file_size(t: &[u8], n: usize, reference: Reference, date: &[u8]) -> usize
     requires { Begins t.now n }
-    ensures { result ≡ 360 + length (sets_in (turns_in (searched taxpayers.now banks.now filed.now states.now) date.now t.now)) }
+    ensures { result ≡ 360 + length (sets_in (turns_in (searched (lent reference.entry)) date.now t.now)) }
 {
-    let mut row = [0u32; 762];
-    let mut list = [[0usize; 3]; 96];
-    let mut past = judge::no_past();
+    let mut list: ArrayVec<Broken, 96> = ArrayVec::new();
+    let mut past: Past<MOST_ACCEPTED> = Past::new();
     let mut at: usize = 240;
     let mut size: usize = 0;
-    let mut i: usize = 0;
-    while i < n {
-        let judged = judge::judge(
-            t, at, taxpayers, banks, filed, states, date, past, &mut row, &mut list,
-        );
-        let j = judged.judgment;
+    for _ in 0..n {
+        let j = judge::judge(t, at, reference, date, &mut past, &mut list);
         size += 120 + 120 * j.found.kept;
-        past = judged.past;
         at += j.size;
-        i += 1;
     }
     size + 360
-}
-
-fn lesser(a: usize, b: usize) -> usize
-    ensures { result ≡ min a b }
-{
-    if a < b { a } else { b }
 }
 
 // The most that the file of n documents can take: the set of a document of 43 bytes has 240, and that of a 4868 document, which has 341
@@ -93,66 +51,38 @@ fn most(size: usize, n: usize) -> usize
     requires { (size ≤ 65536) × (43 * n ≤ size) }
     ensures { (result ≡ 360 + 240 * n + 11400 * min n ((size - 43 * n) / 341)) × (result ≤ enough size) }
 {
-    let forms = lesser(n, (size - 43 * n) / 341);
+    let forms = n.min((size - 43 * n) / 341);
     360 + 240 * n + 11400 * forms
 }
 
 // The file goes into so many bytes: the most that it could take does, or else what it takes.
-fn has_room(
-    t: &[u8],
-    n: usize,
-    taxpayers: &[u8],
-    banks: &[u8],
-    filed: &[u8],
-    states: &[u8],
-    date: &[u8],
-    room: usize,
-) -> bool
+fn has_room(t: &[u8], n: usize, reference: Reference, date: &[u8], room: usize) -> bool
     requires { Begins t.now n }
-    ensures { result ≡ leb (360 + length (sets_in (turns_in (searched taxpayers.now banks.now filed.now states.now) date.now t.now))) room }
+    ensures { result ≡ leb (360 + length (sets_in (turns_in (searched (lent reference.entry)) date.now t.now))) room }
 {
     if most(t.len(), n) <= room {
         return true;
     }
-    file_size(t, n, taxpayers, banks, filed, states, date) <= room
+    file_size(t, n, reference, date) <= room
 }
 
 // The record sets of all documents, written after the 240 bytes of TRANA and TRANB.
-fn write_sets(
-    t: &[u8],
-    n: usize,
-    taxpayers: &[u8],
-    banks: &[u8],
-    filed: &[u8],
-    states: &[u8],
-    date: &[u8],
-    out: &mut [u8],
-) -> Done
-    requires { Begins t.now n × (240 + length (sets_in (turns_in (searched taxpayers.now banks.now filed.now states.now) date.now t.now)) ≤ length out.old) }
-    ensures { Written (turns_in (searched taxpayers.now banks.now filed.now states.now) date.now t.now) 240 out.old out.new result }
+fn write_sets(t: &[u8], n: usize, reference: Reference, date: &[u8], out: &mut [u8]) -> Done
+    requires { Begins t.now n × (240 + length (sets_in (turns_in (searched (lent reference)) date.now t.now)) ≤ length out.old) }
+    ensures { Written (turns_in (searched (lent reference.entry)) date.now t.now) 240 out.old out.new result }
 {
-    let mut row = [0u32; 762];
-    let mut list = [[0usize; 3]; 96];
-    let mut past = judge::no_past();
+    let mut list: ArrayVec<Broken, 96> = ArrayVec::new();
+    let mut past: Past<MOST_ACCEPTED> = Past::new();
     let mut at: usize = 240;
     let mut to: usize = 240;
     let mut accepted: usize = 0;
-    let mut i: usize = 0;
-    while i < n {
-        let judged = judge::judge(
-            t, at, taxpayers, banks, filed, states, date, past, &mut row, &mut list,
-        );
-        let j = judged.judgment;
-        let letter = j.letter;
+    for _ in 0..n {
+        let j = judge::judge(t, at, reference, date, &mut past, &mut list);
         let end = at + j.size;
-        sets::put_set(&mut out[to..], &t[at..end], t, date, j, &list);
+        sets::put_set(&mut out[to..], &t[at..end], t, date, j, list.as_slice());
         to += 120 + 120 * j.found.kept;
-        accepted += one_if(letter);
-        let left = judged.past;
-        let next = stand_at(end, left);
-        past = next.past;
-        at = next.at;
-        i += 1;
+        accepted += usize::from(j.letter == Letter::A);
+        at = end;
     }
     Done { to, accepted }
 }
@@ -161,20 +91,17 @@ fn write_sets(
 fn put_file(
     t: &[u8],
     n: usize,
-    taxpayers: &[u8],
-    banks: &[u8],
-    filed: &[u8],
-    states: &[u8],
+    reference: Reference,
     date: &[u8],
     name: &[u8],
     out: &mut [u8],
 ) -> usize
-    requires { Begins t.now n × (length (judged_file (searched taxpayers.now banks.now filed.now states.now) date.now name.now t.now) ≤ length out.old) }
-    ensures value { result ≡ length (judged_file (searched taxpayers.now banks.now filed.now states.now) date.now name.now t.now) }
-    ensures out_after { out.new ≡ laid out.old 0 (judged_file (searched taxpayers.now banks.now filed.now states.now) date.now name.now t.now) }
+    requires { Begins t.now n × (length (judged_file (searched (lent reference)) date.now name.now t.now) ≤ length out.old) }
+    ensures value { result ≡ length (judged_file (searched (lent reference.entry)) date.now name.now t.now) }
+    ensures out_after { out.new ≡ laid out.old 0 (judged_file (searched (lent reference.entry)) date.now name.now t.now) }
 {
     text::lay(out, 0, &t[0..240]);
-    let done = write_sets(t, n, taxpayers, banks, filed, states, date, out);
+    let done = write_sets(t, n, reference, date, out);
     let to = done.to;
     let from = t.len() - 120;
     let twelve = layout::through(Layout::LTrana, 60, 80, &t[0..120]);
@@ -194,36 +121,18 @@ fn put_file(
 fn judge_all(
     t: &[u8],
     n: usize,
-    pack: &[u8],
-    places: Places,
+    reference: Reference,
     date: &[u8],
     name: &[u8],
     out: &mut [u8],
-) -> Answer
-    requires { Ready t.now pack.now date.now n places }
-    ensures { Given (prescribed t.now pack.now date.now name.now) out.old out.new result }
+) -> Result<usize, Refusal>
+    requires { Begins t.now n }
+    ensures { Given (judged_file (searched (lent reference.entry)) date.now name.now t.now) out.old out.new result }
 {
-    let taxpayers = pack::lines_at(pack, places.one);
-    let banks = pack::lines_at(pack, places.two);
-    let filed = pack::lines_at(pack, places.three);
-    let states = pack::lines_at(pack, places.four);
-    if !has_room(t, n, taxpayers, banks, filed, states, date, out.len()) {
-        return Answer::Refused(Refusal::ShortOutput);
+    if !has_room(t, n, reference, date, out.len()) {
+        return Err(Refusal::ShortOutput);
     }
-    let whole = put_file(t, n, taxpayers, banks, filed, states, date, name, out);
-    Answer::File(whole)
-}
-
-// The length of that file.
-fn need_all(t: &[u8], n: usize, pack: &[u8], places: Places, date: &[u8]) -> usize
-    requires { Ready t.now pack.now date.now n places }
-    ensures { result ≡ 360 + length (sets_in (turns_in (lines_of (blocks_of pack.now)) date.now t.now)) }
-{
-    let taxpayers = pack::lines_at(pack, places.one);
-    let banks = pack::lines_at(pack, places.two);
-    let filed = pack::lines_at(pack, places.three);
-    let states = pack::lines_at(pack, places.four);
-    file_size(t, n, taxpayers, banks, filed, states, date)
+    Ok(put_file(t, n, reference, date, name, out))
 }
 
 // THE ENTRY POINTS
@@ -240,70 +149,61 @@ fn sequence_of(t: &[u8], codes: Codes) -> [u8; 16]
     s
 }
 
-// The acknowledgment file of a transmission t, written at the front of out, or a refusal, which changes no byte of out.
-pub fn acknowledge(t: &[u8], pack: &[u8], date: &[u8], name: &[u8], out: &mut [u8]) -> Answer
+// The acknowledgment file of a transmission t, written at the front of out, and its length; or a refusal, which changes no byte of out.
+pub fn acknowledge(
+    t: &[u8],
+    pack: &[u8],
+    date: &[u8],
+    name: &[u8],
+    out: &mut [u8],
+) -> Result<usize, Refusal>
     ensures value { result ≡ answer t.now pack.now date.now name.now (length out.old) }
     ensures out_after { out.new ≡ left_by result (prescribed t.now pack.now date.now name.now) out.old }
 {
-    match route::choose(t, pack, date, name) {
-        Route::Refuse(refusal) => Answer::Refused(refusal),
-        Route::Reject(codes) => {
+    match route::choose(t, pack, date, name)? {
+        Way::Reject(codes) => {
             let sequence = sequence_of(t, codes);
             rejection::reject(&sequence, codes, out)
         }
-        Route::Judge(n, places) => judge_all(t, n, pack, places, date, name, out),
+        Way::Judge(n, reference) => judge_all(t, n, reference, date, name, out),
     }
 }
 
 // The length of that file, worked out without writing it, or a refusal: how much to lend for it.
-pub fn need(t: &[u8], pack: &[u8], date: &[u8], name: &[u8]) -> Answer
+pub fn need(t: &[u8], pack: &[u8], date: &[u8], name: &[u8]) -> Result<usize, Refusal>
     ensures { result ≡ need t.now pack.now date.now name.now }
 {
-    match route::choose(t, pack, date, name) {
-        Route::Refuse(refusal) => Answer::Refused(refusal),
-        Route::Reject(codes) => Answer::File(rejection::size_of(codes)),
-        Route::Judge(n, places) => Answer::File(need_all(t, n, pack, places, date)),
-    }
-}
-
-fn refusal_number(r: Refusal) -> u32
-    ensures { (result ≡ refusal_number r) × (result ≤ 4) }
-{
-    match r {
-        Refusal::LongTransmission => 1,
-        Refusal::BadPack => 2,
-        Refusal::BadDateOrName => 3,
-        Refusal::ShortOutput => 4,
+    match route::choose(t, pack, date, name)? {
+        Way::Reject(codes) => Ok(rejection::size_of(codes)),
+        Way::Judge(n, reference) => Ok(file_size(t, n, reference, date)),
     }
 }
 
 // 0 for a file, or the refusal's number.
-pub fn number_of(a: Answer) -> u32
+pub fn number_of(a: Result<usize, Refusal>) -> u32
     ensures { result ≡ number_of a }
 {
     match a {
-        Answer::File(_) => 0,
-        Answer::Refused(r) => refusal_number(r),
+        Ok(_) => 0,
+        Err(r) => r.number(),
     }
 }
 
 // The file's length, or 0.
-pub fn length_of(a: Answer) -> usize
+pub fn length_of(a: Result<usize, Refusal>) -> usize
     ensures { result ≡ length_of a }
 {
     match a {
-        Answer::File(n) => n,
-        Answer::Refused(_) => 0,
+        Ok(n) => n,
+        Err(_) => 0,
     }
 }
 
-fn code_of(a: Answer) -> u64
+#[tactic(auto, unfolding(paper::specs::Answer::coded))]
+fn code_of(a: Result<usize, Refusal>) -> u64
     ensures { result ≡ coded a }
 {
-    match a {
-        Answer::File(n) => n as u64,
-        Answer::Refused(r) => refusal_number(r) as u64 * 4294967296,
-    }
+    number_of(a) as u64 * 4294967296 + length_of(a) as u64
 }
 
 // The same as one number, for programs in other languages: the number times 2 to the 32nd, plus the length.

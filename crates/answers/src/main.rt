@@ -5,40 +5,31 @@
 use paper::Ask;
 use std::io;
 
-fn tried(rt: &HostRuntime, heading: &str, first: u32) -> io::Result<()> {
-    print!(rt; "{heading}:\n")?;
-    desk::serve(rt, Ask::File, first)?;
-    print!(rt; "\nroom: ")?;
-    desk::serve(rt, Ask::Room, first)
-}
-
-fn answers(rt: &HostRuntime) -> io::Result<()> {
-    tried(rt, "a judged file", 1)?;
-    tried(rt, "a whole rejection", 5)?;
-    tried(rt, "a transmission of 65,537 bytes", 9)?;
-    tried(rt, "a pack that is not well formed", 13)?;
-    tried(rt, "a date of nine digits", 17)?;
-    tried(rt, "a file name of three bytes", 21)?;
-    tried(rt, "more than 65,536 bytes to write", 25)?;
-    tried(rt, "a pack of 65,537 bytes", 29)?;
-    tried(rt, "both of 65,537 bytes", 33)
-}
-
-fn unread(rt: &HostRuntime) -> io::Result<()> {
-    tried(rt, "no file where the transmission should be", 37)?;
-    tried(rt, "a folder where the transmission should be", 41)?;
-    tried(rt, "no file where the pack should be", 45)?;
-    tried(rt, "a folder where the pack should be", 49)
-}
-
-// The last three arguments are a pack, a transmission and a date.
-fn missing(rt: &HostRuntime) -> io::Result<()> {
-    tried(rt, "no file name", 53)?;
-    tried(rt, "no argument", 56)
-}
+// A heading, and the first of the four arguments.
+const TRIES: [(&str, u32); 15] = [
+    ("a judged file", 1),
+    ("a whole rejection", 5),
+    ("a transmission of 65,537 bytes", 9),
+    ("a pack that is not well formed", 13),
+    ("a date of nine digits", 17),
+    ("a file name of three bytes", 21),
+    ("more than 65,536 bytes to write", 25),
+    ("a pack of 65,537 bytes", 29),
+    ("both of 65,537 bytes", 33),
+    ("no file where the transmission should be", 37),
+    ("a folder where the transmission should be", 41),
+    ("no file where the pack should be", 45),
+    ("a folder where the pack should be", 49),
+    ("no file name", 53),
+    ("no argument", 56),
+];
 
 fn main(rt: HostRuntime) -> io::Result<()> {
-    answers(&rt)?;
-    unread(&rt)?;
-    missing(&rt)
+    for (heading, first) in TRIES {
+        println!(rt; "{heading}:")?;
+        desk::serve(&rt, Ask::File, first)?;
+        print!(rt; "\nroom: ")?;
+        desk::serve(&rt, Ask::Room, first)?;
+    }
+    Ok(())
 }

@@ -1,7 +1,7 @@
 // The receiver on files: inputs are read, and the reply is written to standard output.
 #![tactic(auto)]
 
-ghost use Rattle.desk.specs.Counts.{IsPrefixLen};
+ghost use Rattle.std.specs.Prelude.{◌≤◌, length};
 
 use paper::Ask;
 use std::env::Env;
@@ -9,55 +9,49 @@ use std::fs::Files;
 use std::io::{Read, Write};
 use std::{fs, io, str};
 
-// Reads until buf is full, the file ends or a read fails.
-fn read_full<F: Read>(file: &mut F, buf: &mut [u8]) -> usize
-    ensures { IsPrefixLen result buf.new }
+// Reads until buf is full, the file ends or a read fails: what was read.
+fn read_full<'a, F: Read>(file: &mut F, buf: &'a mut [u8]) -> &'a [u8]
+    ensures { length result.now ≤ length buf.old }
 {
     let mut done = 0;
     while done < buf.len() {
         match file.read(&mut buf[done..]) {
-            Ok(0) => break,
+            Ok(0) | Err(_) => break,
             Ok(n) => done += n,
-            Err(_) => break,
         }
     }
-    done
+    &buf[..done]
 }
 
 fn open<R: Files>(rt: &R, path: &[u8]) -> Option<R::File> {
-    let Ok(path) = str::from_utf8(path) else {
-        return None;
-    };
+    let path = str::from_utf8(path).ok()?;
     fs::open(rt, path).ok()
 }
 
-// A file, at the start of buf. One that can't be read counts as empty.
-pub fn read_file<R: Files>(rt: &R, path: &[u8], buf: &mut [u8]) -> usize
-    ensures { IsPrefixLen result buf.new }
+// A file, read into buf as far as it goes. One that can't be read counts as empty.
+pub fn read_file<'a, R: Files>(rt: &R, path: &[u8], buf: &'a mut [u8]) -> &'a [u8]
+    ensures { length result.now ≤ length buf.old }
 {
-    let Some(mut file) = open(rt, path) else {
-        return 0;
-    };
-    read_full(&mut file, buf)
-}
-
-// Argument i, at the start of buf. One that is missing or longer than buf counts as empty.
-fn arg<R: Env>(rt: &R, i: usize, buf: &mut [u8]) -> usize
-    ensures { IsPrefixLen result buf.new }
-{
-    match rt.arg(i, buf) {
-        Ok(n) => n,
-        Err(_) => 0,
+    match open(rt, path) {
+        Some(mut file) => read_full(&mut file, buf),
+        None => &buf[..0],
     }
 }
 
-// The file that argument i names, at the start of buf. A missing argument counts as empty, and no file has the empty path.
-fn read_named<R: Files + Env>(rt: &R, i: usize, buf: &mut [u8]) -> usize
-    ensures { IsPrefixLen result buf.new }
+// Argument i, read into buf. One that is missing or longer than buf counts as empty.
+fn arg<'a, R: Env>(rt: &R, i: usize, buf: &'a mut [u8]) -> &'a [u8]
+    ensures { length result.now ≤ length buf.old }
+{
+    let n = rt.arg(i, buf).unwrap_or(0);
+    &buf[..n]
+}
+
+// The file that argument i names, read into buf. A missing argument counts as empty, and no file has the empty path.
+fn read_named<'a, R: Files + Env>(rt: &R, i: usize, buf: &'a mut [u8]) -> &'a [u8]
+    ensures { length result.now ≤ length buf.old }
 {
     let mut path = [0u8; 4096];
-    let n = arg(rt, i, &mut path);
-    read_file(rt, &path[..n], buf)
+    read_file(rt, arg(rt, i, &mut path), buf)
 }
 
 // Four arguments from number `first` on: the pack's path, the transmission's path, the receiving date and the name of the acknowledgment
@@ -65,21 +59,14 @@ fn read_named<R: Files + Env>(rt: &R, i: usize, buf: &mut [u8]) -> usize
 pub fn serve<R: Files + Env + Print>(rt: &R, ask: Ask, first: u32) -> io::Result<()> {
     let i = first as usize;
     let mut pack = [0u8; 65537];
-    let p = read_named(rt, i, &mut pack);
+    let pack = read_named(rt, i, &mut pack);
     let mut sent = [0u8; 65537];
-    let t = read_named(rt, i + 1, &mut sent);
+    let sent = read_named(rt, i + 1, &mut sent);
     let mut date = [0u8; 4096];
-    let d = arg(rt, i + 2, &mut date);
+    let date = arg(rt, i + 2, &mut date);
     let mut name = [0u8; 4096];
-    let n = arg(rt, i + 3, &mut name);
+    let name = arg(rt, i + 3, &mut name);
     let mut out = [0u8; 65536];
-    let size = reply::reply_to(
-        ask,
-        &sent[..t],
-        &pack[..p],
-        &date[..d],
-        &name[..n],
-        &mut out,
-    );
+    let size = reply::reply_to(ask, sent, pack, date, name, &mut out);
     io::writer(rt).write_all(text::piece(&out, 0, size))
 }

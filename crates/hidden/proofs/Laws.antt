@@ -17,10 +17,6 @@ pub set_length_lem : (s count : Bytes) (n : ℕ) → count ≡ field LKey 100 s 
 unfolding set_length
 set_length_lem s count n e en = ap (λ (k : ℕ). 120 + 120 * k) (en ∙ (λ i. number (part 0 2 (e i))) ∙ ap number (two_digits s))
 
-pub first_set_lem : (s p : Bytes) (n : ℕ) → n ≡ set_length s → p ≡ part 0 n s → p ≡ first_set s
-unfolding first_set
-first_set_lem s p n e ep = ep ∙ ap (λ (k : ℕ). take k s) e
-
 pub after_set_lem : (s p : Bytes) (n : ℕ) → n ≡ set_length s → p ≡ part n (length s) s → p ≡ after_set s
 unfolding after_set
 after_set_lem s p n e ep = ep ∙ take_all (length s) (drop n s) (omega (arith, length-drop n s)) ∙ ap (λ (k : ℕ). drop k s) e

@@ -11,49 +11,51 @@ use std::fs::Files;
 use std::io;
 use std::io::Write;
 
-// What comes back for a transmission and a pack of data/.
-fn replied<R: Files>(rt: &R, sent_path: &str, pack_path: &str, out: &mut [u8]) -> usize {
+// What comes back for a transmission and a pack of data/, at the front of out.
+fn replied<'a, R: Files>(rt: &R, sent_path: &str, pack_path: &str, out: &'a mut [u8]) -> &'a [u8] {
     let mut sent = [0u8; 8192];
-    let t = desk::read_file(rt, sent_path.as_bytes(), &mut sent);
+    let sent = desk::read_file(rt, sent_path.as_bytes(), &mut sent);
     let mut pack = [0u8; 4096];
-    let p = desk::read_file(rt, pack_path.as_bytes(), &mut pack);
-    reply::reply(
-        &sent[..t],
-        &pack[..p],
-        b"20040415",
-        b"ACK0000000000LESSON3",
-        out,
-    )
+    let pack = desk::read_file(rt, pack_path.as_bytes(), &mut pack);
+    let n = reply::reply(sent, pack, b"20040415", b"ACK0000000000LESSON3", out);
+    text::piece(out, 0, n)
 }
 
 // THE PACK
 
+const PACKS: [&str; 6] = [
+    "other-taxpayers",
+    "other-banks",
+    "other-filed",
+    "other-states",
+    "other-transmissions",
+    "used-taxpayer",
+];
+
 fn compare<R: Files + Print>(rt: &R, path: &str, first: &[u8]) -> io::Result<()> {
     let mut out = [0u8; 4096];
-    let n = replied(rt, "transmission", path, &mut out);
-    if text::is_same(text::piece(&out, 0, n), first) {
-        println!(rt; "{path}: the same file")
+    let which = if replied(rt, "transmission", path, &mut out) == first {
+        "the same file"
     } else {
-        println!(rt; "{path}: another file")
-    }
+        "another file"
+    };
+    println!(rt; "{path}: {which}")
 }
 
 fn packs<R: Files + Print>(rt: &R) -> io::Result<()> {
     let mut out = [0u8; 4096];
-    let n = replied(rt, "transmission", "pack", &mut out);
-    let first = text::piece(&out, 0, n);
-    println!(rt; "{n} bytes come back")?;
-    compare(rt, "other-taxpayers", first)?;
-    compare(rt, "other-banks", first)?;
-    compare(rt, "other-filed", first)?;
-    compare(rt, "other-states", first)?;
-    compare(rt, "other-transmissions", first)?;
-    compare(rt, "used-taxpayer", first)
+    let first = replied(rt, "transmission", "pack", &mut out);
+    println!(rt; "{} bytes come back", first.len())?;
+    for path in PACKS {
+        compare(rt, path, first)?;
+    }
+    Ok(())
 }
 
 // THE OTHER DOCUMENTS
 
 // The length of the record set that s starts with.
+#[tactic(auto, using(crate::proofs::Laws::set_length_lem))]
 fn set_length(s: &[u8]) -> usize
     ensures { result ≡ set_length s.now }
 {
@@ -61,12 +63,14 @@ fn set_length(s: &[u8]) -> usize
     120 + 120 * text::number(count, 0, 2) as usize
 }
 
+#[tactic(auto, unfolding(crate::specs::Sets::first_set))]
 fn first_set(s: &[u8]) -> &[u8]
     ensures { result.now ≡ first_set s.now }
 {
     text::piece(s, 0, set_length(s))
 }
 
+#[tactic(auto, using(crate::proofs::Laws::after_set_lem))]
 fn after_set(s: &[u8]) -> &[u8]
     ensures { result.now ≡ after_set s.now }
 {
@@ -74,16 +78,16 @@ fn after_set(s: &[u8]) -> &[u8]
 }
 
 fn tell<R: Print>(rt: &R, what: &str, a: &[u8], b: &[u8]) -> io::Result<()> {
-    if text::is_same(a, b) {
-        println!(rt; "{what}: the same bytes")
+    let which = if a == b {
+        "the same bytes"
     } else {
-        println!(rt; "{what}: other bytes")
-    }
+        "other bytes"
+    };
+    println!(rt; "{what}: {which}")
 }
 
 // The first record set of each, with its letter.
-fn tell_set<R: Print>(rt: &R, what: &str, a: &[u8], b: &[u8]) -> io::Result<()> {
-    print!(rt; "{what}")?;
+fn tell_set<R: Print>(rt: &R, a: &[u8], b: &[u8]) -> io::Result<()> {
     io::writer(rt).write_all(layout::field_of(Layout::LKey, 50, a))?;
     print!(rt; " and ")?;
     io::writer(rt).write_all(layout::field_of(Layout::LKey, 50, b))?;
@@ -98,25 +102,24 @@ fn tell_files<R: Print>(rt: &R, a: &[u8], b: &[u8]) -> io::Result<()> {
         text::piece(a, 0, 240),
         text::piece(b, 0, 240),
     )?;
-    let a = text::piece(a, 240, a.len());
-    let b = text::piece(b, 240, b.len());
-    tell_set(rt, "record set 1, ", a, b)?;
-    let a = after_set(a);
-    let b = after_set(b);
-    tell_set(rt, "record set 2, ", a, b)?;
-    let a = after_set(a);
-    let b = after_set(b);
-    tell_set(rt, "record set 3, ", a, b)?;
-    tell(rt, "Recap", after_set(a), after_set(b))
+    let mut a = text::piece(a, 240, a.len());
+    let mut b = text::piece(b, 240, b.len());
+    for n in 1..=3 {
+        print!(rt; "record set {n}, ")?;
+        tell_set(rt, a, b)?;
+        a = after_set(a);
+        b = after_set(b);
+    }
+    tell(rt, "Recap", a, b)
 }
 
 fn exchange<R: Files + Print>(rt: &R, one: &str, other: &str) -> io::Result<()> {
     let mut out = [0u8; 4096];
-    let n = replied(rt, one, "pack", &mut out);
-    let mut out2 = [0u8; 4096];
-    let n2 = replied(rt, other, "pack", &mut out2);
+    let first = replied(rt, one, "pack", &mut out);
+    let mut out = [0u8; 4096];
+    let second = replied(rt, other, "pack", &mut out);
     println!(rt; "{one} and {other}")?;
-    tell_files(rt, text::piece(&out, 0, n), text::piece(&out2, 0, n2))
+    tell_files(rt, first, second)
 }
 
 fn main(rt: HostRuntime) -> io::Result<()> {

@@ -2,12 +2,13 @@
 use mathlib.Core.Path.{◌≡◌, refl, sym, ap, ◌∙◌, subst}
 use mathlib.Core.Bool.{Bool, true, false, cond, ◌&&◌, ◌||◌}
 use mathlib.Core.List.{List, [], ◌∷◌, ◌++◌, map, map-append, append-nil}
-use Prim.Native.Nat.{ℕ, ◌+◌, ◌-◌, ◌≤◌, ◌<◌}
+use Prim.Native.Nat.{ℕ, ◌+◌, ◌≤◌}
 use native.Mathlib.Omega.{arith}
 use lib.Count.{ones}
 use lib.Dec.{eqb}
 use lib.ListN.{length, take, drop, length-append, length-map}
 use borrow.Author.Tests.{eqb-true}
+use Rattle.paper.specs.declared.Broken.{Broken}
 use Rattle.paper.specs.declared.Facts.{Facts}
 use Rattle.paper.specs.declared.Kind.{Kind}
 use Rattle.paper.specs.declared.Kind.TheVariants.{TranA, TranB, Form, Unknown, Payment, Auth, Summary, Recap, Stray}
@@ -19,16 +20,15 @@ use Rattle.paper.specs.Judge.{Item, Finding, mark, type_at, occurrence_at, finds
 use Rattle.paper.specs.File.{on_auth as onAuthFound}
 use Rattle.paper.proofs.Laws.{never, both, part_take}
 use Rattle.paper.proofs.KindLaws.{kind_fits, kind_length}
-use Rattle.walk.specs.declared.Head.{Head}
-use Rattle.walk.specs.Heads.{front, left, head_of}
-use Rattle.walk.specs.declared.Extent.{Extent}
-use Rattle.walk.specs.Parts.{own_in, doc_here, sizes, extent_of}
-use Rattle.walk.proofs.Docs.{own_here}
-use Rattle.walk.proofs.Facts.{head_kind, head_part, head_left, head_fits, goes_some, others_here, doc_fits}
+use Rattle.walk.specs.Parts.{own_in, doc_here, sizes}
+use Rattle.walk.specs.Own.{as_record}
+use Rattle.walk.proofs.Docs.{own_goes}
+use Rattle.walk.proofs.Facts.{others_here, doc_fits}
+use Rattle.walk.proofs.Own.{same_others, no_others, next_own, next_kind, next_some}
 use Rattle.rules.specs.declared.Before.{Before}
 use Rattle.rules.specs.Sets.{others_of, chosen}
 use Rattle.rules.proofs.Laws.{chosen_those, bits_none, bits_ones, few_rules, others_are}
-use Rattle.judge.specs.Kept.{Broke, broke_if, on_auth, total, Held, added}
+use Rattle.judge.specs.Kept.{broke_if, on_auth, total, Held, added}
 use Rattle.judge.specs.Judged.{bank_for, item_in, set_in, broke_from, counts}
 use Rattle.judge.proofs.Kept.{added_nil, added_append, any_append, total_append}
 
@@ -39,90 +39,68 @@ bit_le true = omega arith
 bit_le false = omega arith
 
 -- at the place to: what is left, added, gives what is to be held in all
-module _ (banks : Bytes) (s : Sight) (t : Bytes) (end : ℕ) (w : Held) where
-  pub record Ran (found : Held) (b : Before) (to : ℕ) : Type 0 where
-    pub within : to ≤ length t
+module _ (banks : Bytes) (s : Sight) (t : Bytes) (w : Held) where
+  pub record Ran (found : Held) (b : Before) (to : ℕ) (left : Bytes) : Type 0 where
+    pub fits : to + sizes (own_in left) ≤ length t
     pub pays : b.pays ≤ to
     pub aths : b.aths ≤ to
-    pub rows : found.rows ≤ 96
+    pub rows : length found.list ≤ 96
     pub kept : found.kept ≤ 96
-    pub size : to + sizes (own_in (drop to t)) ≡ end
-    pub same : added found (broke_from s to b.pays b.aths (map (item_in banks) (own_in (drop to t)))) ≡ w
+    pub same : added found (broke_from s to b.pays b.aths (map (item_in banks) (own_in left))) ≡ w
 
-module _ (banks form payer spouse : Bytes) (whole : Facts) (t : Bytes) (end : ℕ) (w found : Held) (b : Before) (to : ℕ)
-    (i : Ran banks (sight form payer spouse [] [] [] [] whole) t end w found b to) where
+module _ (banks form payer spouse : Bytes) (whole : Facts) (t : Bytes) (w found : Held) (b : Before) (to : ℕ) (left : Bytes)
+    (i : Ran banks (sight form payer spouse [] [] [] [] whole) t w found b to left) where
   abbrev S : Sight
   S = sight form payer spouse [] [] [] [] whole
 
-  by_own : (x : Bool) → goes_on (kind_of (front (drop to t))) ≡ x → own_in (drop to t) ≡ cond x (front (drop to t) ∷ own_in (left (drop to t))) []
-  by_own x e = own_here (drop to t) ∙ ap (λ (y : Bool). cond y (front (drop to t) ∷ own_in (left (drop to t))) []) e
+  pub ran_end : map as_record (own_in left) ≡ [] → found ≡ w
+  ran_end e =
+      sym (added_nil found i.rows i.kept) ∙ ap (λ (l : List Bytes). added found (broke_from S to b.pays b.aths (map (item_in banks) l))) (sym (no_others (own_in left) e)) ∙ i.same
 
-  some_bytes : goes_on (kind_of (front (drop to t))) ≡ true → 1 ≤ length (front (drop to t))
-  unfolding head_of
-  some_bytes g = (head_fits t to (head_of (drop to t)) refl (goes_some (kind_of (front (drop to t))) g)).0
+  -- r is the next record, of kind k
+  module _ (k : Kind) (r u : Bytes) (e : map as_record (own_in left) ≡ (k, r) ∷ map as_record (own_in u)) where
+    next : own_in left ≡ r ∷ own_in u
+    next = next_own left u k r e
 
-  pub ran_end : end ≤ to → found ≡ w
-  ran_end h = by (goes_on (kind_of (front (drop to t)))) refl
-    where
-      by : (x : Bool) → goes_on (kind_of (front (drop to t))) ≡ x → found ≡ w
-      by true e = absurd (omega (arith, i.size, ap sizes (by_own true e), some_bytes e))
-      by false e = sym (added_nil found i.rows i.kept) ∙ ap (λ (l : List Bytes). added found (broke_from S to b.pays b.aths (map (item_in banks) l))) (sym (by_own false e)) ∙ i.same
+    kind : k ≡ kind_of r
+    kind = next_kind left u k r e
 
-  -- a record is left, and it goes on
-  pub ran_goes : to < end → goes_on (kind_of (front (drop to t))) ≡ true
-  ran_goes h = by (goes_on (kind_of (front (drop to t)))) refl
-    where
-      by : (x : Bool) → goes_on (kind_of (front (drop to t))) ≡ x → x ≡ true
-      by true e = refl
-      by false e = absurd (omega (arith, i.size, ap sizes (by_own false e)))
+    goes : goes_on (kind_of r) ≡ true
+    goes = (both (goes_on (kind_of r)) (every (λ (x : Bytes). goes_on (kind_of x)) (own_in u)) (ap (every (λ (x : Bytes). goes_on (kind_of x))) (sym next) ∙ own_goes left)).0
 
-  module _ (h : Head) (more : to < end) (eh : h ≡ head_of (drop to t)) where
-    pub ran_fits : (1 ≤ h.size) × (to + h.size ≤ length t)
-    ran_fits = head_fits t to h eh (goes_some h.kind (ap goes_on (head_kind t to h eh) ∙ ran_goes more))
+    pub ran_fits : to + length r ≤ length t
+    ran_fits = omega (arith, i.fits, ap sizes next)
 
-    abbrev r : Bytes
-    r = front (drop to t)
-
-    module _ (k : Kind) (bank : Bytes) (set : ℕ) (ek : k ≡ h.kind) (nform : length form ≡ 384) (eb : bank ≡ bank_for banks k (take (to + h.size - to) (drop to t)))
-        (es : set ≡ others_of k form (take (to + h.size - to) (drop to t)) payer spouse bank whole b) where
-      kind : k ≡ kind_of r
-      kind = ek ∙ head_kind t to h eh
-
-      own : take (to + h.size - to) (drop to t) ≡ r
-      own = head_part t to h eh
-
+    module _ (bank : Bytes) (set : ℕ) (nform : length form ≡ 384) (eb : bank ≡ bank_for banks k r) (es : set ≡ others_of k form r payer spouse bank whole b) where
       set_is : set ≡ set_in (kind_of r) (view S r (bank_for banks (kind_of r) r) b.pays b.aths)
       set_is =
-          es ∙ ap (λ (x : Bytes). others_of k form (take (to + h.size - to) (drop to t)) payer spouse x whole b) eb
-          ∙ (λ j. others_of (kind j) form (own j) payer spouse (bank_for banks (kind j) (own j)) whole b)
-          ∙ others_are form payer spouse r (bank_for banks (kind_of r) r) [] [] [] [] whole b (kind_of r) (ran_goes more) nform (kind_fits r)
+          es ∙ ap (λ (x : Bytes). others_of k form r payer spouse x whole b) eb
+          ∙ (λ j. others_of (kind j) form r payer spouse (bank_for banks (kind j) r) whole b)
+          ∙ others_are form payer spouse r (bank_for banks (kind_of r) r) [] [] [] [] whole b (kind_of r) goes nform (kind_fits r)
 
       -- one record on; g is what is held with it
-      pub ran_on : (g : Held) (c : Before) → g ≡ added found (broke_if to k set) → g.rows ≤ 96 → g.kept ≤ 96 → c ≡ counts b k → Ran banks S t end w g c (to + h.size)
-      unfolding head_of
+      pub ran_on : (g : Held) (c : Before) → g ≡ added found (broke_if to k set) → length g.list ≤ 96 → g.kept ≤ 96 → c ≡ counts b k → Ran banks S t w g c (to + length r) u
       ran_on g c eg few low ec =
-          let n : h.size ≡ length r = ap (λ (x : Head). x.size) eh in
-          let l : own_in (drop to t) ≡ r ∷ own_in (drop (to + h.size) t) = by_own true (ran_goes more) ∙ ap (λ (x : Bytes). r ∷ own_in x) (sym (head_left t to h eh)) in
-          let rest = map (item_in banks) (own_in (drop (to + h.size) t)) in
+          let rest = map (item_in banks) (own_in u) in
           let cp : c.pays ≡ b.pays + bit (is Payment k) = ap (λ (x : Before). x.pays) ec in
           let ca : c.aths ≡ b.aths + bit (is Auth k) = ap (λ (x : Before). x.aths) ec in
+          let some : 1 ≤ length r = next_some left u k r e in
           record {
-            within = ran_fits.1;
-            pays = omega (arith, cp, i.pays, ran_fits.0, bit_le (is Payment k));
-            aths = omega (arith, ca, i.aths, ran_fits.0, bit_le (is Auth k));
+            fits = omega (arith, i.fits, ap sizes next);
+            pays = omega (arith, cp, i.pays, some, bit_le (is Payment k));
+            aths = omega (arith, ca, i.aths, some, bit_le (is Auth k));
             rows = few;
             kept = low;
-            size = omega (arith, i.size, ap sizes l, n);
             same =
-                (λ j. added (eg j) (broke_from S (to + h.size) (cp j) (ca j) rest))
-                ∙ added_append found (broke_if to k set) (broke_from S (to + h.size) (b.pays + bit (is Payment k)) (b.aths + bit (is Auth k)) rest) i.rows
-                ∙ (λ j. added found (broke_if to (kind j) (set_is j) ++ broke_from S (to + n j) (b.pays + bit (is Payment (kind j))) (b.aths + bit (is Auth (kind j))) rest))
-                ∙ ap (λ (x : List Bytes). added found (broke_from S to b.pays b.aths (map (item_in banks) x))) (sym l)
+                (λ j. added (eg j) (broke_from S (to + length r) (cp j) (ca j) rest))
+                ∙ added_append found (broke_if to k set) (broke_from S (to + length r) (b.pays + bit (is Payment k)) (b.aths + bit (is Auth k)) rest)
+                ∙ (λ j. added found (broke_if to (kind j) (set_is j) ++ broke_from S (to + length r) (b.pays + bit (is Payment (kind j))) (b.aths + bit (is Auth (kind j))) rest))
+                ∙ ap (λ (x : List Bytes). added found (broke_from S to b.pays b.aths (map (item_in banks) x))) (sym next)
                 ∙ i.same;
           }
 
 -- of a 4868 document: its first record, and where the others start
-module _ (t : Bytes) (at : ℕ) (doc : Extent) (form : Bytes) (ed : doc ≡ extent_of (drop at t)) (k : is Form (kind_of (doc_here (drop at t)).main) ≡ true) (ef : form ≡ (doc_here (drop at t)).main) where
+module _ (t : Bytes) (at : ℕ) (form : Bytes) (k : is Form (kind_of (doc_here (drop at t)).main) ≡ true) (ef : form ≡ (doc_here (drop at t)).main) where
   pub form_size : length form ≡ 384
   form_size = ap length ef ∙ kind_length Form 384 (doc_here (drop at t)).main refl k
 
@@ -132,26 +110,23 @@ module _ (t : Bytes) (at : ℕ) (doc : Extent) (form : Bytes) (ed : doc ≡ exte
   others : (doc_here (drop at t)).others ≡ own_in (drop (at + length form) t)
   others = others_here t at opened ∙ ap (λ (x : Bytes). own_in (drop (at + length x) t)) (sym ef)
 
-  pub form_fits : (at + 384 ≤ length t) × (at + doc.size ≤ length t)
-  unfolding extent_of
-  form_fits = (omega (arith, form_size, (doc_fits t at opened).0, ap length ef), omega (arith, ap (λ (x : Extent). x.size) ed, (doc_fits t at opened).1))
+  pub form_fits : at + length form ≤ length t
+  form_fits = omega (arith, (doc_fits t at opened).0, ap length ef)
 
-  pub form_end : at + doc.size ≡ at + length form + sizes (own_in (drop (at + length form) t))
-  unfolding extent_of
-  form_end = omega (arith, ap (λ (x : Extent). x.size) ed, ap length ef, ap sizes others)
-
-  pub ran_start : (banks payer spouse : Bytes) (first : Held) → first.rows ≤ 96 → first.kept ≤ 96
-      → Ran banks (sight form payer spouse [] [] [] [] doc.facts) t (at + doc.size)
-      (added first (broke_from (sight form payer spouse [] [] [] [] doc.facts) (at + length form) 0 0 (map (item_in banks) (doc_here (drop at t)).others))) first (record { pays = 0; aths = 0 }) (at + length form)
-  ran_start banks payer spouse first few low = record {
-    within = omega (arith, form_size, form_fits.0);
-    pays = omega arith;
-    aths = omega arith;
-    rows = few;
-    kept = low;
-    size = sym form_end;
-    same = ap (λ (x : List Bytes). added first (broke_from (sight form payer spouse [] [] [] [] doc.facts) (at + length form) 0 0 (map (item_in banks) x))) (sym others);
-  }
+  pub ran_start : (banks payer spouse : Bytes) (whole : Facts) (first : Held) (left : Bytes) → length first.list ≤ 96 → first.kept ≤ 96
+      → map as_record (own_in left) ≡ map as_record (own_in (drop (at + length form) t))
+      → Ran banks (sight form payer spouse [] [] [] [] whole) t
+      (added first (broke_from (sight form payer spouse [] [] [] [] whole) (at + length form) 0 0 (map (item_in banks) (doc_here (drop at t)).others))) first (record { pays = 0; aths = 0 }) (at + length form) left
+  ran_start banks payer spouse whole first left few low e =
+      let o : own_in left ≡ (doc_here (drop at t)).others = same_others (own_in left) (own_in (drop (at + length form) t)) e ∙ sym others in
+      record {
+        fits = omega (arith, (doc_fits t at opened).1, ap sizes o, ap length ef);
+        pays = omega arith;
+        aths = omega arith;
+        rows = few;
+        kept = low;
+        same = ap (λ (x : List Bytes). added first (broke_from (sight form payer spouse [] [] [] [] whole) (at + length form) 0 0 (map (item_in banks) x))) o;
+      }
 
 -- only the first record is judged by the lines of the state, the earlier numbers and the date
 module _ (form payer spouse : Bytes) (zips : List Bytes) (dsn dcn date : Bytes) (whole : Facts) (own bank : Bytes) (pays aths : ℕ) where
@@ -206,9 +181,9 @@ module _ (place : ℕ) (k : Kind) (v : View) where
           go false e (y ∷ m) = go false e m ∙ ap (λ (c : Bool). c || any onAuthFound (map (mark k v.own) m)) (sym e)
 
   one_empty : empty (broke_if place k (set_in k v)) ≡ empty (finds_in k v)
-  one_empty = ap (λ (b : Bool). empty {A = Broke} (cond b [] (record { place = place; kind = k; set = set_in k v } ∷ []))) none_same ∙ by rules
+  one_empty = ap (λ (b : Bool). empty {A = Broken} (cond b [] (record { place = place; kind = k; set = set_in k v } ∷ []))) none_same ∙ by rules
     where
-      by : (l : List ℕ) → empty {A = Broke} (cond (empty l) [] (record { place = place; kind = k; set = set_in k v } ∷ [])) ≡ empty (map (mark k v.own) l)
+      by : (l : List ℕ) → empty {A = Broken} (cond (empty l) [] (record { place = place; kind = k; set = set_in k v } ∷ [])) ≡ empty (map (mark k v.own) l)
       by [] = refl
       by (x ∷ l) = refl
 
@@ -268,7 +243,7 @@ Standing t place [] = Unit {0}
 Standing t place (r ∷ rs) = (42 ≤ length r) × (r ≡ take (length r) (drop place t)) × Standing t (place + length r) rs
 
 -- the findings of a record that breaks a rule, read in t
-abbrev pub found_of : Bytes → Broke → List Finding
+abbrev pub found_of : Bytes → Broken → List Finding
 found_of t b = map (mark b.kind (drop b.place t)) (chosen b.set (rules_of b.kind))
 
 module _ (t : Bytes) (place : ℕ) (k : Kind) (v : View) (long : 42 ≤ length v.own) (here : v.own ≡ take (length v.own) (drop place t)) where

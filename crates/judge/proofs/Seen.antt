@@ -1,32 +1,31 @@
 -- What a document sees of the earlier ones, as numbers, and what it leaves for the later ones. Assumes nothing.
 use mathlib.Core.Path.{◌≡◌, refl, sym, ap, ◌∙◌}
-use mathlib.Core.Bool.{Bool, true, false, not, cond, ◌&&◌, ◌||◌, or-false, or_assoc}
+use mathlib.Core.Bool.{Bool, true, false, cond, ◌&&◌, ◌||◌}
+use Rattle.std.proofs.Common.{Option, None, Some}
 use mathlib.Core.List.{List, [], ◌∷◌, ◌++◌, map, map-append}
-use Prim.Native.Nat.{ℕ, suc, ◌+◌, ◌-◌, ◌%◌, ◌≤◌, ◌<◌, min}
-use native.Mathlib.Nat.{mod-lt, mod-eq_of_lt}
-use native.Mathlib.Numerals.{add-one}
+use Prim.Native.Nat.{ℕ, ◌+◌, ◌%◌, ◌≤◌, ◌<◌}
+use native.Mathlib.Nat.{mod-lt}
 use native.Mathlib.Omega.{arith}
-use borrow.Author.Tests.{lt-ltb, le-ltb, ne_eqb, ltb-true, ltb-false, leb-true, leb-false}
-use lib.Dec.{eqb, leb, ltb, lit<}
-use lib.ListN.{length, get_or, take, drop, set, length-set, length-take, length-drop}
-use lib.Seq.{take_all, take-suc-set}
+use borrow.Author.Tests.{lt-ltb, ne_eqb, ltb-true, ltb-false}
+use lib.Dec.{eqb, ltb, lit<}
+use lib.ListN.{length, drop, length-take, length-drop, length-append}
+use lib.Seq.{take_all}
 use Rattle.paper.specs.declared.Identity.{Identity}
 use Rattle.paper.specs.declared.Layout.TheVariants.{L4868}
 use Rattle.paper.specs.declared.Letter.{Letter}
 use Rattle.paper.specs.Bytes.{Bytes, any, those, same, member, part, digits, number, written}
 use Rattle.paper.specs.Layouts.{form4868, entry, field}
 use Rattle.paper.specs.Judge.{start, digits_or, is_a}
-use Rattle.paper.proofs.Laws.{next, never, both, same_eq}
+use Rattle.paper.proofs.Laws.{never, same_eq}
 use Rattle.words.specs.Past.{number_if, identity_of, earlier}
 use Rattle.paper.proofs.Numbers.{length-written}
 use Rattle.words.proofs.Digits.{digits_written, number_written, number_written_whole, written_number, same_number}
-use Rattle.judge.specs.declared.Past.{Past}
-use Rattle.judge.specs.Seen.{numbers_in, seen_by, no_past, number_after, next_past, next_row}
+use Rattle.judge.specs.Seen.{Trail, numbers_in, some_among, seen_by, no_past, number_after, accepted_after, next_past}
 
 -- before the first document
-pub starts_empty : (row : List ℕ) → seen_by no_past row ≡ start
+pub starts_empty : seen_by no_past ≡ start
 unfolding seen_by earlier
-starts_empty row = refl
+starts_empty = refl
 
 -- ONE OF THE ACCEPTED NUMBERS
 
@@ -70,58 +69,16 @@ among s (x ∷ row) n = by (ltb x 1000000000) refl (among s row n)
         at true d = ap (λ (z : Bool). z || any (eqb (number s)) row) (sym (ne_eqb (number s) x (λ q. omega (arith, nine_below s n d, ltb-false x 1000000000 e))))
         at false d = refl
 
--- as many as there are
-take-room : (n : ℕ) (l : List ℕ) → take (min (length l) n) l ≡ take n l
-take-room n l = by (ltb n (length l)) refl
-  where
-    by : (b : Bool) → ltb n (length l) ≡ b → take (min (length l) n) l ≡ take n l
-    by true h =
-        let w : n < length l = ltb-true n (length l) h in
-        let m : min (length l) n ≡ n = omega arith in
-        ap (λ (k : ℕ). take k l) m
-    by false h =
-        let w : length l ≤ n = ltb-false n (length l) h in
-        take_all (min (length l) n) l (omega arith) ∙ sym (take_all n l (omega arith))
-
--- the loop that looks for a number among the first n
-module _ (p : ℕ → Bool) (row : List ℕ) (n : ℕ) where
-  pub any_start : any p (take n row) ≡ (false || any p (take (n - 0) (drop 0 row)))
-  any_start = let e : n ≡ n - 0 = omega arith in ap (λ (k : ℕ). any p (take k row)) e
-
-  pub any_again : (i : ℕ) (a b : Bool) → i < n → i < length row → any p (take n row) ≡ (a || any p (take (n - i) (drop i row))) → b ≡ p (get_or row i 0)
-      → any p (take n row) ≡ ((a || b) || any p (take (n - (i + 1)) (drop (i + 1) row)))
-  any_again i a b h l v e =
-      let m : n - i ≡ suc (n - (i + 1)) = omega arith in
-      v ∙ (λ j. a || any p (take (m j) (next row i l j))) ∙ ap (λ (c : Bool). a || (c || any p (take (n - (i + 1)) (drop (i + 1) row)))) (sym e) ∙ sym (or_assoc a b (any p (take (n - (i + 1)) (drop (i + 1) row))))
-
-  pub any_done : (i : ℕ) (a : Bool) → n ≤ i → any p (take n row) ≡ (a || any p (take (n - i) (drop i row))) → a ≡ any p (take n row)
-  any_done i a h v = let z : 0 ≡ n - i = omega arith in sym (v ∙ ap (λ (k : ℕ). a || any p (take k (drop i row))) (sym z) ∙ or-false a)
-
--- of the numbers of a row, as many as there are
-pub accepted_yes : (ssn n m : ℕ) (row : List ℕ) → (ssn ≡ 0 → ⊥) → m ≡ min (length row) n → (r : Bool) → r ≡ any (eqb (ssn - 1)) (take m row)
-    → r ≡ (not (eqb ssn 0) && any (eqb (ssn - 1)) (take n row))
-accepted_yes ssn n m row h em r er =
-    er ∙ ap (any (eqb (ssn - 1))) (ap (λ (k : ℕ). take k row) em ∙ take-room n row) ∙ ap (λ (b : Bool). not b && any (eqb (ssn - 1)) (take n row)) (sym (ne_eqb ssn 0 h))
-
 -- the number of nine digits, and none of other bytes
-nine_number : (s : Bytes) → length s ≡ 9 → number_if s ≡ cond (digits s) (number s + 1) 0
+nine_number : (s : Bytes) → length s ≡ 9 → number_if s ≡ cond (digits s) (Some (number s)) None
 unfolding number_if
-nine_number s w = ap (λ (x : Bytes). cond (digits s) (number x + 1) 0) (take_all 16 s (omega (arith, w)))
+nine_number s w = ap (λ (x : Bytes). cond (digits s) (Some (number x)) None) (take_all 16 s (omega (arith, w)))
 
-nine_few : (s : Bytes) → length s ≡ 9 → number_if s ≤ 1000000000
-nine_few s w = omega (arith, nine_number s w, by (digits s) refl)
+number_member : (s : Bytes) (row : List ℕ) → length s ≡ 9 → some_among (number_if s) row ≡ member s (numbers_in row)
+number_member s row w = ap (λ (n : Option ℕ). some_among n row) (nine_number s w) ∙ by (digits s) ∙ sym (among s row w)
   where
-    by : (d : Bool) → digits s ≡ d → cond d (number s + 1) 0 ≤ 1000000000
-    by true e = omega (arith, nine_below s w e)
-    by false e = omega arith
-
-number_member : (s : Bytes) (row : List ℕ) → length s ≡ 9 → (not (eqb (number_if s) 0) && any (eqb (number_if s - 1)) row) ≡ member s (numbers_in row)
-number_member s row w = ap (λ (n : ℕ). not (eqb n 0) && any (eqb (n - 1)) row) (nine_number s w) ∙ by (digits s) ∙ sym (among s row w)
-  where
-    by : (d : Bool) → (not (eqb (cond d (number s + 1) 0) 0) && any (eqb (cond d (number s + 1) 0 - 1)) row) ≡ (d && any (eqb (number s)) row)
-    by true =
-        let m : number s + 1 - 1 ≡ number s = omega arith in
-        λ i. not (ne_eqb (number s + 1) 0 (λ q. omega arith) i) && any (eqb (m i)) row
+    by : (d : Bool) → some_among (cond d (Some (number s)) None) row ≡ (d && any (eqb (number s)) row)
+    by true = refl
     by false = refl
 
 -- WHAT A FORM LEAVES
@@ -136,66 +93,19 @@ form_wide form h = (part_wide 42 16 form (omega (arith, h)), part_wide 58 14 for
 
 -- the primary number of a form among those of a row
 module _ (form : Bytes) (row : List ℕ) (x : Identity) (s : Bytes) (ex : x ≡ identity_of form) (h : length form ≡ 384) (es : s ≡ field L4868 90 form) where
-  pub own_member : (b : Bool) → b ≡ (not (eqb x.ssn 0) && any (eqb (x.ssn - 1)) row) → b ≡ member s (numbers_in row)
+  pub own_member : (b : Bool) → b ≡ some_among x.ssn row → b ≡ member s (numbers_in row)
   unfolding identity_of
   own_member b e =
-      e ∙ ap (λ (y : Identity). not (eqb y.ssn 0) && any (eqb (y.ssn - 1)) row) ex ∙ number_member (field L4868 90 form) row (form_wide form h).2
+      e ∙ ap (λ (y : Identity). some_among y.ssn row) ex ∙ number_member (field L4868 90 form) row (form_wide form h).2
       ∙ ap (λ (y : Bytes). member y (numbers_in row)) (sym es)
 
--- it is below ten digits
-pub own_few : (form : Bytes) (x : Identity) → x ≡ identity_of form → length form ≡ 384 → x.ssn ≤ 1000000000
-unfolding identity_of
-own_few form x ex h = omega (arith, ap (λ (y : Identity). y.ssn) ex, nine_few (field L4868 90 form) (form_wide form h).2)
-
--- what the code leaves
-module _ (x : Identity) (l : Letter) (p : Past) (row : List ℕ) (dsn dcn : ℕ) (a : Bool)
-    (ed : dsn ≡ number_after x.dsn p.dsn) (ec : dcn ≡ number_after x.dcn p.dcn) (ea : a ≡ is_a l) where
-  numbers_are : (n : ℕ) → n ≡ cond (is_a l && ltb p.n (length row)) (p.n + 1) p.n → record { dsn = dsn; dcn = dcn; n = n } ≡ next_past x l p row
-  unfolding next_past
-  numbers_are n e = λ i. record { dsn = ed i; dcn = ec i; n = e i }
-
-  full : (not a || leb (length row) p.n) ≡ true → (is_a l && ltb p.n (length row)) ≡ false
-  full h = ap (λ (b : Bool). b && ltb p.n (length row)) (sym ea) ∙ by a (leb (length row) p.n) refl h
-    where
-      by : (b c : Bool) → leb (length row) p.n ≡ c → (not b || c) ≡ true → (b && ltb p.n (length row)) ≡ false
-      by true true q z = le-ltb p.n (length row) (leb-true (length row) p.n q)
-      by true false q z = absurd (never z)
-      by false c q z = refl
-
-  room_for_lem : (not a || leb (length row) p.n) ≡ false → (is_a l && ltb p.n (length row)) ≡ true
-  room_for_lem h = ap (λ (b : Bool). b && ltb p.n (length row)) (sym ea) ∙ by a (leb (length row) p.n) refl h
-    where
-      by : (b c : Bool) → leb (length row) p.n ≡ c → (not b || c) ≡ false → (b && ltb p.n (length row)) ≡ true
-      by true true q z = absurd (never (sym z))
-      by true false q z = lt-ltb p.n (length row) (leb-false (length row) p.n q)
-      by false c q z = absurd (never (sym z))
-
-  pub pass_no : (not a || leb (length row) p.n) ≡ true → (record { dsn = dsn; dcn = dcn; n = p.n } ≡ next_past x l p row) × (row ≡ next_row x l p row)
-  unfolding next_row
-  pass_no h = (numbers_are p.n (sym (ap (λ (b : Bool). cond b (p.n + 1) p.n) (full h))), sym (ap (λ (b : Bool). cond b (set row p.n ((x.ssn - 1) % 4294967296)) row) (full h)))
-
-  pub pass_room : (not a || leb (length row) p.n) ≡ false → p.n < length row
-  pass_room h = ltb-true p.n (length row) (both (is_a l) (ltb p.n (length row)) (room_for_lem h)).1
-
-  pub pass_yes : (not a || leb (length row) p.n) ≡ false → (n : ℕ) → n ≡ x.ssn - 1
-      → (record { dsn = dsn; dcn = dcn; n = p.n + 1 } ≡ next_past x l p row) × (set row p.n (n % 4294967296) ≡ next_row x l p row)
-  unfolding next_row
-  pass_yes h n en = (
-    numbers_are (p.n + 1) (sym (ap (λ (b : Bool). cond b (p.n + 1) p.n) (room_for_lem h))),
-    ap (λ (y : ℕ). set row p.n (y % 4294967296)) en ∙ sym (ap (λ (b : Bool). cond b (set row p.n ((x.ssn - 1) % 4294967296)) row) (room_for_lem h)),
-  )
-
 -- digits, or what is known of an earlier number
-pub nearest : (w n : ℕ) (f : Bytes) → length f ≡ w → w ≤ 16 → earlier w (number_after (number_if f) n) ≡ digits_or f (earlier w n)
+pub nearest : (w : ℕ) (n : Option ℕ) (f : Bytes) → length f ≡ w → w ≤ 16 → earlier w (number_after (number_if f) n) ≡ digits_or f (earlier w n)
 unfolding earlier number_if
-nearest w n f e h = ap (λ (x : Bytes). earlier w (number_after (cond (digits f) (number x + 1) 0) n)) (take_all 16 f (omega (arith, e, h))) ∙ by (digits f) refl
+nearest w n f e h = ap (λ (x : Bytes). earlier w (number_after (cond (digits f) (Some (number x)) None) n)) (take_all 16 f (omega (arith, e, h))) ∙ by (digits f) refl
   where
-    by : (b : Bool) → digits f ≡ b → earlier w (number_after (cond b (number f + 1) 0) n) ≡ cond b f (earlier w n)
-    by true d =
-        let m : number f + 1 - 1 ≡ number f = omega arith in
-        let z : eqb (number f + 1) 0 ≡ false = ne_eqb (number f + 1) 0 (λ q. omega arith) in
-        ap (λ (c : Bool). earlier w (cond c n (number f + 1))) z ∙ ap (λ (c : Bool). cond c [] (written w (number f + 1 - 1))) z
-        ∙ (λ i. written (sym e i) (m i)) ∙ written_number f d
+    by : (b : Bool) → digits f ≡ b → earlier w (number_after (cond b (Some (number f)) None) n) ≡ cond b f (earlier w n)
+    by true d = ap (λ (k : ℕ). written k (number f)) (sym e) ∙ written_number f d
     by false d = refl
 
 those_append : {A : Type 0} (p : A → Bool) (xs ys : List A) → those p (xs ++ ys) ≡ those p xs ++ those p ys
@@ -207,43 +117,32 @@ those_append p (x ∷ xs) ys = by (p x) (those_append p xs ys)
     by false e = e
 
 -- one number more
-more_numbers : (row : List ℕ) (s : Bytes) → length s ≡ 9 → digits s ≡ true → numbers_in (row ++ number s % 4294967296 ∷ []) ≡ numbers_in row ++ s ∷ []
+more_numbers : (row : List ℕ) (s : Bytes) → length s ≡ 9 → digits s ≡ true → numbers_in (row ++ number s ∷ []) ≡ numbers_in row ++ s ∷ []
 more_numbers row s n d =
-    let low : number s < 1000000000 = nine_below s n d in
-    let m : number s % 4294967296 ≡ number s = mod-eq_of_lt (omega arith) in
-    ap (λ (x : ℕ). numbers_in (row ++ x ∷ [])) m
-    ∙ ap (map (written 9)) (those_append (λ (x : ℕ). ltb x 1000000000) row (number s ∷ []) ∙ ap (λ (b : Bool). those (λ (x : ℕ). ltb x 1000000000) row ++ cond b (number s ∷ []) []) (lt-ltb (number s) 1000000000 low))
+    ap (map (written 9)) (those_append (λ (x : ℕ). ltb x 1000000000) row (number s ∷ []) ∙ ap (λ (b : Bool). those (λ (x : ℕ). ltb x 1000000000) row ++ cond b (number s ∷ []) []) (lt-ltb (number s) 1000000000 (nine_below s n d)))
     ∙ map-append (written 9) (those (λ (x : ℕ). ltb x 1000000000) row) (number s ∷ [])
     ∙ ap (λ (x : Bytes). numbers_in row ++ x ∷ []) (ap (λ (w : ℕ). written w (number s)) (sym n) ∙ written_number s d)
 
-module _ (form : Bytes) (l : Letter) (p : Past) (row : List ℕ) (room : p.n < length row)
+module _ (room : ℕ) (form : Bytes) (l : Letter) (p : Trail) (some : length p.accepted < room)
     (n7 : length (field L4868 7 form) ≡ 16) (n8 : length (field L4868 8 form) ≡ 14) (n90 : length (field L4868 90 form) ≡ 9) (good : is_a l ≡ true → digits (field L4868 90 form) ≡ true) where
-  abbrev own : Identity
-  own = identity_of form
-
-  numbers : numbers_in (take (next_past own l p row).n (next_row own l p row)) ≡ cond (is_a l) (numbers_in (take p.n row) ++ field L4868 90 form ∷ []) (numbers_in (take p.n row))
-  unfolding next_past next_row identity_of
-  numbers = rw (lt-ltb p.n (length row) room) (by (is_a l) refl)
+  numbers : numbers_in (accepted_after room (number_if (field L4868 90 form)) l p.accepted) ≡ cond (is_a l) (numbers_in p.accepted ++ field L4868 90 form ∷ []) (numbers_in p.accepted)
+  numbers = ap (λ (n : Option ℕ). numbers_in (accepted_after room n l p.accepted)) (nine_number ssn n90) ∙ by (is_a l) (digits ssn) refl refl
     where
       ssn : Bytes
       ssn = field L4868 90 form
 
-      x : ℕ
-      x = (number_if ssn - 1) % 4294967296
-
-      by : (b : Bool) → is_a l ≡ b → numbers_in (take (cond (b && true) (p.n + 1) p.n) (cond (b && true) (set row p.n x) row)) ≡ cond b (numbers_in (take p.n row) ++ ssn ∷ []) (numbers_in (take p.n row))
-      by true a =
-          let m : take (p.n + 1) (set row p.n x) ≡ take p.n row ++ x ∷ [] = rw add-one (take-suc-set row p.n x room) in
-          let z : number_if ssn ≡ number ssn + 1 = nine_number ssn n90 ∙ ap (λ (d : Bool). cond d (number ssn + 1) 0) (good a) in
-          let y : number_if ssn - 1 ≡ number ssn = omega (arith, z) in
-          ap numbers_in m ∙ ap (λ (k : ℕ). numbers_in (take p.n row ++ k % 4294967296 ∷ [])) y ∙ more_numbers (take p.n row) ssn n90 (good a)
-      by false a = refl
+      by : (a d : Bool) → is_a l ≡ a → digits ssn ≡ d → numbers_in (accepted_after room (cond d (Some (number ssn)) None) l p.accepted) ≡ cond a (numbers_in p.accepted ++ ssn ∷ []) (numbers_in p.accepted)
+      by true true a d =
+          ap (λ (b : Bool). numbers_in (cond b (p.accepted ++ number ssn ∷ []) p.accepted)) ((λ i. a i && lt-ltb (length p.accepted) room some i)) ∙ more_numbers p.accepted ssn n90 d
+      by true false a d = absurd (never (sym d ∙ good a))
+      by false true a d = ap (λ (b : Bool). numbers_in (cond (b && ltb (length p.accepted) room) (p.accepted ++ number ssn ∷ []) p.accepted)) a
+      by false false a d = refl
 
   -- the next document sees what stands in the paper after this one
-  pub leaves : seen_by (next_past (identity_of form) l p row) (next_row (identity_of form) l p row) ≡ record {
-    dsn = digits_or (field L4868 7 form) (seen_by p row).dsn;
-    dcn = digits_or (field L4868 8 form) (seen_by p row).dcn;
-    accepted = cond (is_a l) ((seen_by p row).accepted ++ field L4868 90 form ∷ []) (seen_by p row).accepted;
+  pub leaves : seen_by (next_past room (identity_of form) l p) ≡ record {
+    dsn = digits_or (field L4868 7 form) (seen_by p).dsn;
+    dcn = digits_or (field L4868 8 form) (seen_by p).dcn;
+    accepted = cond (is_a l) ((seen_by p).accepted ++ field L4868 90 form ∷ []) (seen_by p).accepted;
   }
   unfolding seen_by next_past identity_of
   leaves = λ i. record {
@@ -253,11 +152,19 @@ module _ (form : Bytes) (l : Letter) (p : Past) (row : List ℕ) (room : p.n < l
   }
 
 -- a form adds its number where it got A, and nothing else
-pub next_few : (x : Identity) (l : Letter) (p : Past) (row : List ℕ) → ((next_past x l p row).n ≤ p.n + cond (is_a l) 1 0) × (length (next_row x l p row) ≡ length row)
-unfolding next_past next_row
-next_few x l p row = by (is_a l) (ltb p.n (length row))
+pub next_few : (room : ℕ) (x : Identity) (l : Letter) (p : Trail) → length (next_past room x l p).accepted ≤ length p.accepted + cond (is_a l) 1 0
+unfolding next_past
+next_few room x l p = by x.ssn
   where
-    by : (a b : Bool) → (cond (a && b) (p.n + 1) p.n ≤ p.n + cond a 1 0) × (length (cond (a && b) (set row p.n ((x.ssn - 1) % 4294967296)) row) ≡ length row)
-    by true true = (omega arith, length-set row p.n ((x.ssn - 1) % 4294967296))
-    by true false = (omega arith, refl)
-    by false b = (omega arith, refl)
+    none : (a : Bool) → length p.accepted ≤ length p.accepted + cond a 1 0
+    none true = omega arith
+    none false = omega arith
+
+    one : (a b : Bool) (n : ℕ) → length (cond (a && b) (p.accepted ++ n ∷ []) p.accepted) ≤ length p.accepted + cond a 1 0
+    one true true n = omega (arith, length-append p.accepted (n ∷ []))
+    one true false n = omega arith
+    one false b n = omega arith
+
+    by : (n : Option ℕ) → length (accepted_after room n l p.accepted) ≤ length p.accepted + cond (is_a l) 1 0
+    by None = none (is_a l)
+    by (Some n) = one (is_a l) (ltb (length p.accepted) room) n

@@ -11,7 +11,7 @@ use Rattle.paper.specs.declared.Kind.TheVariants.{TranA, TranB, Form, Unknown, P
 use Rattle.paper.specs.declared.Layout.TheVariants.{L4868, LPayment}
 use Rattle.paper.specs.Bytes.{Bytes, digits, those, empty, first_or}
 use Rattle.paper.specs.Layouts.{field}
-use Rattle.paper.specs.Pack.{Lines, Blocks, well_formed, block_of, blocks_of, lines_of}
+use Rattle.paper.specs.Pack.{Lines, Blocks, well_formed, blocks_of, lines_of}
 use Rattle.paper.specs.Walk.{Doc, kind_of, is, opens}
 use Rattle.paper.specs.Conditions.{View, view, pick, form0010, form_holds, form_rules, holds, rules_of, facts_of}
 use Rattle.paper.specs.Judge.{Before, Finding, Turn, known, ssn_of, spouse_of, state_of, item_of, asked, mark, finds_in, findings, letter_by, twice, letter_of, is_a, sight_of, turn}
@@ -102,19 +102,19 @@ accepted_digits date b L s o h = (first date b L s o h).2
 -- what the searches find is what the paper asks for, on the blocks of any pack, and by `sought_lines` of a well-formed one
 module _ (b : Blocks) where
   abbrev S : Lines
-  S = searched b.one b.two b.three b.four
+  S = searched b
 
   payer_same : (key : Bytes) → first_or (S 1 key) ≡ first_or (sought b 1 key)
-  payer_same key = searched_taxpayer b.one b.two b.three b.four key ∙ taxpayer_sought b key
+  payer_same key = searched_taxpayer b key ∙ taxpayer_sought b key
 
   bank_same : (key : Bytes) → first_or (S 2 key) ≡ first_or (sought b 2 key)
-  bank_same key = searched_bank b.one b.two b.three b.four key ∙ bank_sought b key
+  bank_same key = searched_bank b key ∙ bank_sought b key
 
   done_same : (key : Bytes) → first_or (S 3 key) ≡ first_or (sought b 3 key)
-  done_same key = searched_filed b.one b.two b.three b.four key ∙ filed_sought b key
+  done_same key = searched_filed b key ∙ filed_sought b key
 
   zips_same : (key : Bytes) → S 4 key ≡ sought b 4 key
-  zips_same key = searched_states b.one b.two b.three b.four key ∙ states_sought b key
+  zips_same key = searched_states b key ∙ states_sought b key
 
   items_same : (rs : List Bytes) → map (item_of S) rs ≡ map (item_of (sought b)) rs
   items_same [] = refl
@@ -131,9 +131,8 @@ module _ (b : Blocks) where
   }
   case_same false d = refl
 
-  pub asked_sought : (d : Doc) → asked (searched b.one b.two b.three b.four) d ≡ asked (sought b) d
+  pub asked_sought : (d : Doc) → asked (searched b) d ≡ asked (sought b) d
   asked_sought d = case_same (known d) d
 
-pub asked_pack : (s : Bytes) → well_formed s ≡ true → (d : Doc) → asked (searched (block_of 1 s) (block_of 2 s) (block_of 3 s) (block_of 4 s)) d ≡ asked (lines_of (blocks_of s)) d
-unfolding blocks_of
+pub asked_pack : (s : Bytes) → well_formed s ≡ true → (d : Doc) → asked (searched (blocks_of s)) d ≡ asked (lines_of (blocks_of s)) d
 asked_pack s h d = asked_sought (blocks_of s) d ∙ ap (λ (L : Lines). asked L d) (sought_lines s h)

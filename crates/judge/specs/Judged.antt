@@ -1,5 +1,6 @@
 -- What the look-ups find on any bytes, and the judgment of a document in its turn. Assumes nothing.
-use Rattle.std.specs.Prelude.{ℕ, ◌+◌, cond, List, [], ◌∷◌, ◌++◌, map, eqb, length}
+use Rattle.std.specs.Prelude.{ℕ, ◌+◌, cond, List, [], ◌∷◌, ◌++◌, map, eqb, length, Option}
+use Rattle.paper.specs.declared.Broken.{Broken}
 use Rattle.paper.specs.declared.Facts.{Facts}
 use Rattle.paper.specs.declared.Identity.{Identity}
 use Rattle.paper.specs.declared.Judgment.{Judgment}
@@ -8,7 +9,7 @@ use Rattle.paper.specs.declared.Kind.TheVariants.{Payment, Auth}
 use Rattle.paper.specs.declared.Layout.TheVariants.{L4868, LPayment}
 use Rattle.paper.specs.Bytes.{Bytes, bit}
 use Rattle.paper.specs.Layouts.{field}
-use Rattle.paper.specs.Pack.{Lines, lines_in}
+use Rattle.paper.specs.Pack.{Blocks, Lines, lines_in}
 use Rattle.paper.specs.Walk.{is, kind_of, Doc}
 use Rattle.paper.specs.Conditions.{Sight, View, sight, view, of_kind, first_auth, facts_of, birth_byte, holds, rules_of}
 use Rattle.paper.specs.Judge.{Item, Turn, known, ssn_of, spouse_of, letter_of, births_of, sight_of}
@@ -17,10 +18,7 @@ use Rattle.words.specs.Past.{identity_of, no_identity, earlier}
 use Rattle.lookup.specs.Find.{line_in, rows_in}
 use Rattle.walk.specs.Parts.{sizes}
 use Rattle.rules.specs.declared.Before.{Before}
-use Rattle.judge.specs.declared.Past.{Past}
-use Rattle.judge.specs.declared.Judged.{Judged}
-use Rattle.judge.specs.Kept.{Broke, broke_if, counted}
-use Rattle.judge.specs.Seen.{past_after}
+use Rattle.judge.specs.Kept.{broke_if, counted}
 
 -- a line, or none
 abbrev pub one_line : Bytes → List Bytes
@@ -29,12 +27,12 @@ one_line (x ∷ l) = (x ∷ l) ∷ []
 
 -- the lines of a key that the searches find in the blocks of these kinds
 -- tied to the paper by `asked_pack` of judge/Ties
-unfoldable pub searched : Bytes → Bytes → Bytes → Bytes → Lines
-searched taxpayers banks filed states k key =
-    cond (eqb k 1) (one_line (line_in 33 key taxpayers))
-    (cond (eqb k 2) (one_line (line_in 10 key banks))
-    (cond (eqb k 3) (one_line (line_in 9 key filed))
-    (cond (eqb k 4) (lines_in 8 (rows_in 8 key states)) [])))
+unfoldable pub searched : Blocks → Lines
+searched b k key =
+    cond (eqb k 1) (one_line (line_in 33 key b.one))
+    (cond (eqb k 2) (one_line (line_in 10 key b.two))
+    (cond (eqb k 3) (one_line (line_in 9 key b.three))
+    (cond (eqb k 4) (lines_in 8 (rows_in 8 key b.four)) [])))
 
 -- the bank line of a payment's 0030
 unfoldable pub bank_for : Bytes → Kind → Bytes → Bytes
@@ -49,22 +47,22 @@ abbrev pub set_in : Kind → View → ℕ
 set_in k v = bits_by (holds k v) (rules_of k)
 
 -- the records that break a rule, from a place on; so many payments and authentications stand before
-abbrev pub broke_from : Sight → ℕ → ℕ → ℕ → List Item → List Broke
+abbrev pub broke_from : Sight → ℕ → ℕ → ℕ → List Item → List Broken
 broke_from s place pays aths [] = []
 broke_from s place pays aths (i ∷ is) =
     broke_if place (kind_of i.bytes) (set_in (kind_of i.bytes) (view s i.bytes i.bank pays aths))
     ++ broke_from s (place + length i.bytes) (pays + bit (of_kind Payment i.bytes)) (aths + bit (of_kind Auth i.bytes)) is
 
 -- what the rules of a 4868 document look at
-unfoldable pub sight_in : Bytes → Bytes → Bytes → Bytes → Past → Facts → Sight
-sight_in form taxpayers states date p whole =
+unfoldable pub sight_in : Bytes → Bytes → Bytes → Bytes → Option ℕ → Option ℕ → Facts → Sight
+sight_in form taxpayers states date dsn dcn whole =
     sight form (line_in 33 (field L4868 90 form) taxpayers) (line_in 33 (field L4868 100 form) taxpayers)
-    (lines_in 8 (rows_in 8 (field L4868 60 form) states)) (earlier 16 p.dsn) (earlier 14 p.dcn) date whole
+    (lines_in 8 (rows_in 8 (field L4868 60 form) states)) (earlier 16 dsn) (earlier 14 dcn) date whole
 
 -- the records of a 4868 document at a place that break a rule
-abbrev pub form_broke : ℕ → Doc → Bytes → Bytes → Bytes → Bytes → Past → Facts → List Broke
-form_broke at d taxpayers banks states date p whole =
-    broke_from (sight_in d.main taxpayers states date p whole) at 0 0 (record { bytes = d.main; bank = [] } ∷ map (item_in banks) d.others)
+abbrev pub form_broke : ℕ → Doc → Bytes → Bytes → Bytes → Bytes → Option ℕ → Option ℕ → Facts → List Broken
+form_broke at d taxpayers banks states date dsn dcn whole =
+    broke_from (sight_in d.main taxpayers states date dsn dcn whole) at 0 0 (record { bytes = d.main; bank = [] } ∷ map (item_in banks) d.others)
 
 -- field 0117 of a 4868 document
 abbrev pub form_births : Doc → Bytes → Facts → ℕ
@@ -76,7 +74,7 @@ counts b k = record { pays = b.pays + bit (is Payment k); aths = b.aths + bit (i
 
 -- of a document at a place
 -- tied to the paper by `rows_found` of judge/Found
-unfoldable pub broke_in : ℕ → Turn → List Broke
+unfoldable pub broke_in : ℕ → Turn → List Broken
 broke_in at t = broke_from (sight_of t) at 0 0 t.subject.items
 
 -- the numbers of a document's form
@@ -94,8 +92,3 @@ judgment_of at t = record {
   facts = facts_of (t.subject.doc.main ∷ t.subject.doc.others);
   births = births_of t;
 }
-
--- and what it leaves
--- tied to the paper by `total_found`, `auth_found` and `empty_found` of judge/Found
-abbrev pub judged_of : ℕ → Turn → Past → List ℕ → Judged
-judged_of at t p row = record { judgment = judgment_of at t; past = past_after t p row }

@@ -3,16 +3,12 @@
 use mathlib.Core.Path.{◌≡◌, refl, sym, ap, ◌∙◌, subst}
 use mathlib.Core.Logic.{◌⊎◌, inl, inr, ⊎_elim}
 use mathlib.Core.Bool.{Bool, true, false}
-use Prim.Native.Nat.{ℕ, zero, suc, ◌+◌, ◌-◌, ◌*◌, ◌≤◌, ◌<◌}
-use native.Mathlib.Nat.{not-suc-le-zero, lt_irrefl, lt_of_lt_of_le, eq-or-lt_of_le, suc-mul, mul-le-mul_right, le_trans}
+use Prim.Native.Nat.{ℕ, zero, suc, ◌+◌, ◌-◌, ◌≤◌, ◌<◌}
+use native.Mathlib.Nat.{not-suc-le-zero, lt_irrefl, lt_of_lt_of_le, eq-or-lt_of_le, le_trans}
 use native.Mathlib.Omega.{arith}
 use lib.Dec.{ltb}
 use borrow.Author.Tests.{lt-ltb, le-ltb, ltb-true, ltb-false}
 use Rattle.lookup.specs.Find.{mid, bisect}
-
--- line i of n lines of w bytes, and k of its bytes, lie within the n lines
-pub row_fits : (i n w : ℕ) → i < n → i * w + w ≤ n * w
-row_fits i n w h = subst (λ (m : ℕ). m ≤ n * w) (suc-mul i w) (mul-le-mul_right w h)
 
 module _ (p : ℕ → Bool) where
   -- one step, over the two tests' values

@@ -11,16 +11,28 @@ use lib.Dec.{ltb, eqb}
 use lib.ListN.{length, get_or, take, drop, length-take, length-drop}
 use lib.Seq.{take-take, drop-drop, get_or-drop}
 use borrow.Author.Tests.{eq-eqb, eqb-true, eqb-false, ltb-true, ltb-false}
+use Rattle.std.proofs.lemmas.List.Sums.{take_while-cons}
 use Rattle.paper.specs.Bytes.{Bytes, every, those, same, before, empty, first_or}
 use Rattle.paper.specs.Pack.{width_of, rise_of, good_line, rows, lines_in, rises_from, rises, good_body, well_formed, block_of, keyed, Blocks, blocks_of, block, Lines, lines_of}
 use Rattle.paper.proofs.Laws.{never, both, same_eq}
 use Rattle.text.proofs.Laws.{same_apart}
-use Rattle.lines.proofs.Rows.{width_some, no_rows}
 use Rattle.pack.proofs.Laws.{body_at}
 use Rattle.lookup.specs.Find.{bisect, key_at, below, count_for, place_for, lead, lines_from, line_in, rows_in, sought}
 use Rattle.lookup.proofs.Order.{before_trans, before_irrefl, before_other, before_total, before_left, before_right, before_takes}
 use Rattle.lookup.proofs.Bisect.{Turn, turn}
-use Rattle.lookup.proofs.Runs.{length-rows, rows_drop, wide_key, count_is, rows_lead, line_first, none_found}
+use Rattle.lookup.proofs.Runs.{no_rows, length-rows, rows_drop, wide_key, count_is, rows_lead, line_first, none_found}
+
+-- no line is empty
+width_some : (k : ℕ) → 0 < width_of k
+unfolding width_of
+width_some k = go (eqb k 1) (eqb k 2) (eqb k 3) (eqb k 4)
+  where
+    go : (a b c d : Bool) → 0 < cond a 33 (cond b 10 (cond c 9 (cond d 8 12)))
+    go true b c d = omega arith
+    go false true c d = omega arith
+    go false false true d = omega arith
+    go false false false true = omega arith
+    go false false false false = omega arith
 
 -- line i of the rows
 row : (n w : ℕ) (s : Bytes) (i : ℕ) → i < n → get_or (rows n w s) i [] ≡ take w (drop (i * w) s)
@@ -81,7 +93,8 @@ module _ (key : Bytes) where
       → ((j : ℕ) → j < length ls → before (take (length key) (get_or ls j [])) key ≡ false) → lead key ls ≡ those (keyed key) ls
   lead_those [] up high = refl
   lead_those (l ∷ ls) up high =
-      go (lead_those ls (λ i j h g. up (suc i) (suc j) (suc-le-suc h) (suc-le-suc g)) (λ j h. high (suc j) (suc-le-suc h))) (keyed key l) refl
+      take_while-cons (keyed key) l ls
+      ∙ go (lead_those ls (λ i j h g. up (suc i) (suc j) (suc-le-suc h) (suc-le-suc g)) (λ j h. high (suc j) (suc-le-suc h))) (keyed key l) refl
     where
       past : keyed key l ≡ false → before key (take (length key) l) ≡ true
       past e =

@@ -4,18 +4,47 @@ use mathlib.Core.Path.{◌≡◌, refl, sym, ap, ◌∙◌, subst}
 use mathlib.Core.Bool.{Bool, true, false, ◌&&◌, cond}
 use mathlib.Core.List.{List, [], ◌∷◌}
 use Prim.Native.Nat.{ℕ, zero, suc, ◌+◌, ◌-◌, ◌*◌, ◌/◌, ◌≤◌, ◌<◌}
-use native.Mathlib.Nat.{zero-mul, suc-mul, add_comm, le_trans, le_of_suc-le-suc, not-suc-le-zero, div-mul-le_self, mul-le-mul_right, mul-div_cancel, sub-zero, zero-add, suc-add, suc-sub-suc, add-mul, div-zero}
+use native.Mathlib.Nat.{zero-mul, mul-zero, suc-mul, add_comm, le_trans, le_of_suc-le-suc, not-suc-le-zero, div-mul-le_self, mul-le-mul_right, mul-div_cancel, sub-zero, zero-add, suc-add, suc-sub-suc, add-mul}
+use native.Mathlib.Numerals.{sub-one}
 use native.Mathlib.Omega.{arith}
-use lib.Dec.{ltb, eqb}
+use lib.Pointwise.{pointwise}
+use Rattle.std.specs.List.{starts_with, prefix_len}
+use Rattle.std.proofs.lemmas.List.Folds.{length-prefix_len}
+use Rattle.std.proofs.lemmas.List.Sums.{take_while-cons}
+use lib.Dec.{ltb, leb, eqb}
 use lib.ListN.{length, take, drop, length-take, length-drop}
 use lib.Seq.{take-take, drop-drop, take-nil}
-use borrow.Author.Tests.{ne_eqb, lt-ltb, le-ltb, ltb-true, ltb-false}
+use borrow.Author.Tests.{le-leb, eq-eqb, ne_eqb, eqb-true, eqb-false, lt-ltb, le-ltb, ltb-true, ltb-false}
 use Rattle.paper.specs.Bytes.{Bytes, same, before, part, empty, first_or}
 use Rattle.paper.specs.Pack.{rows, lines_in, keyed}
 use Rattle.text.proofs.Laws.{piece_whole}
-use Rattle.lines.proofs.Rows.{rows_next, no_rows}
 use Rattle.lookup.proofs.Bisect.{bisect_within, again_up, again_down}
-use Rattle.lookup.specs.Find.{mid, bisect, key_at, below, count_for, place_for, lead, lines_from, line_in, rows_in}
+use Rattle.lookup.specs.Find.{mid, bisect, key_at, below, count_for, place_for, lead, lines_from, rest_in, line_in, rows_in}
+
+pub rows_next : (m w at : ℕ) (s : Bytes) → 0 < m → rows m w (drop at s) ≡ take w (drop at s) ∷ rows (m - 1) w (drop (at + w) s)
+rows_next zero w at s h = absurd (not-suc-le-zero h)
+rows_next (suc m) w at s h =
+    ap (λ (k : ℕ). take w (drop at s) ∷ rows k w (drop w (drop at s))) (sym (sub-one (suc m)))
+    ∙ ap (λ (l : Bytes). take w (drop at s) ∷ rows (suc m - 1) w l) (drop-drop w at s)
+
+pub no_rows : (m w : ℕ) (s : Bytes) → m ≤ 0 → rows m w s ≡ []
+no_rows zero w s h = refl
+no_rows (suc m) w s h = absurd (not-suc-le-zero h)
+
+-- `==` of slices
+pub equal_same : (a b : Bytes) → pointwise eqb a b ≡ same b a
+equal_same [] [] = refl
+equal_same [] (y ∷ b) = refl
+equal_same (x ∷ a) [] = refl
+equal_same (x ∷ a) (y ∷ b) = λ i. turned (eqb x y) refl i && equal_same a b i
+  where
+    turned : (q : Bool) → eqb x y ≡ q → q ≡ eqb y x
+    turned true e = sym (eq-eqb y x (sym (eqb-true x y e)))
+    turned false e = sym (ne_eqb y x (λ f. eqb-false x y e (sym f)))
+
+-- what begins with the key has it
+pub starts_keyed : (key l : Bytes) → starts_with eqb l key ≡ keyed key l
+starts_keyed key l = equal_same key (take (length key) l)
 
 -- how many lines a list of rows has
 pub length-rows : (n w : ℕ) (s : Bytes) → length (rows n w s) ≡ n
@@ -64,31 +93,13 @@ rows_part at m w s some h =
 
 -- the lines of the key that lead
 pub lead_le : (key : Bytes) (ls : List Bytes) → length (lead key ls) ≤ length ls
-lead_le key [] = omega arith
-lead_le key (l ∷ ls) = go (keyed key l) (lead_le key ls)
-  where
-    go : (b : Bool) → length (lead key ls) ≤ length ls → length (cond b (l ∷ lead key ls) []) ≤ suc (length ls)
-    go true h = omega arith
-    go false h = omega arith
+lead_le key ls = omega (arith, length-take (prefix_len (keyed key) ls) ls)
 
 lead_is : (key : Bytes) (ls : List Bytes) → take (length (lead key ls)) ls ≡ lead key ls
-lead_is key [] = refl
-lead_is key (l ∷ ls) = go (keyed key l) (lead_is key ls)
-  where
-    go : (b : Bool) → take (length (lead key ls)) ls ≡ lead key ls → take (length (cond b (l ∷ lead key ls) [])) (l ∷ ls) ≡ cond b (l ∷ lead key ls) []
-    go true e = ap (λ (m : List Bytes). l ∷ m) e
-    go false e = refl
+lead_is key ls = ap (λ (n : ℕ). take n ls) (length-prefix_len (keyed key) ls)
 
 -- the lines that are looked at
 module _ (w : ℕ) (key s : Bytes) where
-  pub no_width : w ≡ 0 → 0 ≡ count_for w key s
-  unfolding count_for
-  no_width h = sym (ap (λ (n : ℕ). cond (ltb w (length key)) 0 n) (ap (λ (k : ℕ). length s / k) h ∙ div-zero (length s)) ∙ go (ltb w (length key)))
-    where
-      go : (b : Bool) → ◌≡◌ {A = ℕ} (cond b 0 0) 0
-      go true = refl
-      go false = refl
-
   pub wide_key : w < length key → 0 ≡ count_for w key s
   unfolding count_for
   wide_key h = simp (lt-ltb w (length key) h)
@@ -131,7 +142,7 @@ module _ (w : ℕ) (key s : Bytes) where
       ≡ cond (same (key_at w (length key) s (place_for w key s)) key)
       (part (place_for w key s * w) w s ∷ lead key (rows (count_for w key s - place_for w key s - 1) w (drop (place_for w key s * w + w) s))) []
   at_place h =
-      ap (lead key) (rows_next (count_for w key s - place_for w key s) w (place_for w key s * w) s (omega arith))
+      ap (lead key) (rows_next (count_for w key s - place_for w key s) w (place_for w key s * w) s (omega arith)) ∙ take_while-cons (keyed key) _ _
       ∙ ap (λ (l : Bytes). cond (same l key) (part (place_for w key s * w) w s ∷ lead key (rows (count_for w key s - place_for w key s - 1) w (drop (place_for w key s * w + w) s))) [])
       (take-take (length key) w (drop (place_for w key s * w) s) (key_fits (place_for w key s) h))
 
@@ -200,26 +211,6 @@ module _ (w : ℕ) (key s : Bytes) where
           ap (λ (ls : List Bytes). empty (lead key ls)) (none_left (ltb-false _ _ e))
           ∙ ap (λ (ls : List Bytes). eqb (length (first_or (lead key ls))) 0) (sym (none_left (ltb-false _ _ e)))
 
--- the lines from line i on, and those of them that lead, lie within the block
-module _ (w : ℕ) (key s : Bytes) (n i : ℕ) (e : n ≡ count_for w key s) (h : i < n) where
-  pub line_fits : i * w + w ≤ length s
-  line_fits = row_fits w key s i (subst (λ (m : ℕ). i < m) e h)
-
-  pub line_key : length key ≤ w
-  line_key = key_fits w key s i (subst (λ (m : ℕ). i < m) e h)
-
-  pub rest_fits : i * w + (n - i) * w ≤ length s
-  rest_fits =
-      let whole : i + (n - i) ≡ n = omega arith in
-      subst (λ (m : ℕ). m ≤ length s) (ap (λ (m : ℕ). m * w) (sym (whole ∙ e)) ∙ add-mul i (n - i) w) (count_fits w key s)
-
-  pub run_fits : (z : ℕ) → z ≡ i * w + length (lead key (lines_from i n w s)) * w → z ≤ length s
-  run_fits z f =
-      let short : length (lead key (lines_from i n w s)) * w ≤ (n - i) * w =
-      mul-le-mul_right w (subst (λ (m : ℕ). length (lead key (lines_from i n w s)) ≤ m) (length-rows (n - i) w (drop (i * w) s)) (lead_le key (lines_from i n w s)))
-      in
-      omega (arith, f, short, rest_fits)
-
 -- The loop that halves; v is the place it is to come to, r the result at the middle line's key
 module _ (w n low high v : ℕ) (key s : Bytes) (r : Bool) (e : bisect (below w key s) n low high ≡ v) (h : high ≤ n) (l : low < high)
     (q : r ≡ before (take (mid low high * w + length key - mid low high * w) (drop (mid low high * w) s)) key) where
@@ -236,57 +227,68 @@ pub place_start : (w n : ℕ) (key s : Bytes) → n ≡ count_for w key s → bi
 unfolding place_for
 place_start w n key s e = ap (λ (m : ℕ). bisect (below w key s) m 0 m) e
 
--- The loop along the lines of the key; v is where it is to end, r the result at `&s[at..at + length key]`
-module _ (w m at v : ℕ) (key s : Bytes) (r : Bool) (e : v ≡ at + length (lead key (rows m w (drop at s))) * w) (k : length key ≤ w) (h : 0 < m)
-    (q : r ≡ same (take (at + length key - at) (drop at s)) key) where
-  run_split : v ≡ at + length (cond r (take w (drop at s) ∷ lead key (rows (m - 1) w (drop (at + w) s))) []) * w
-  run_split =
-      e ∙ ap (λ (ls : List Bytes). at + length (lead key ls) * w) (rows_next m w at s h)
-      ∙ ap (λ (b : Bool). at + length (cond b (take w (drop at s) ∷ lead key (rows (m - 1) w (drop (at + w) s))) []) * w)
-      (ap (λ (l : Bytes). same l key) (take-take (length key) w (drop at s) k ∙ sym (piece_whole s at (length key))) ∙ sym q)
+-- what the searches answer, by the lines from the place on
+module _ (w : ℕ) (key s : Bytes) where
+  abbrev i : ℕ
+  i = place_for w key s
 
-  pub run_again : r ≡ true → v ≡ at + w + length (lead key (rows (m - 1) w (drop (at + w) s))) * w
-  run_again t =
-      let more = length (lead key (rows (m - 1) w (drop (at + w) s))) in
-      run_split ∙ ap (λ (b : Bool). at + length (cond b (take w (drop at s) ∷ lead key (rows (m - 1) w (drop (at + w) s))) []) * w) t
-      ∙ omega (arith, suc-mul more w)
+  abbrev n : ℕ
+  n = count_for w key s
 
-  pub run_stop : r ≡ false → at ≡ v
-  run_stop t =
-      sym (run_split ∙ ap (λ (b : Bool). at + length (cond b (take w (drop at s) ∷ lead key (rows (m - 1) w (drop (at + w) s))) []) * w) t
-      ∙ omega (arith, zero-mul w))
+  rest_fits : i * w + (n - i) * w ≤ length s
+  rest_fits =
+      let whole : i + (n - i) ≡ n = omega (arith, place_within w key s) in
+      subst (λ (m : ℕ). m ≤ length s) (ap (λ (m : ℕ). m * w) (sym whole) ∙ add-mul i (n - i) w) (count_fits w key s)
 
-pub run_done : (w m at v : ℕ) (key s : Bytes) → v ≡ at + length (lead key (rows m w s)) * w → m ≤ 0 → at ≡ v
-run_done w m at v key s e h = sym (e ∙ ap (λ (ls : List Bytes). at + length (lead key ls) * w) (no_rows m w s h) ∙ omega (arith, zero-mul w))
+  pub rest_told : take (n * w - i * w) (drop (i * w) s) ≡ rest_in w key s
+  unfolding rest_in
+  rest_told =
+      let whole : i + (n - i) ≡ n = omega (arith, place_within w key s) in
+      let size : n * w - i * w ≡ (n - i) * w = omega (arith, ap (λ (m : ℕ). m * w) (sym whole) ∙ add-mul i (n - i) w) in
+      ap (λ (m : ℕ). take m (drop (i * w) s)) size
 
-pub ruleset run_loop = (run_again, run_stop, run_done)
+  rest_long : length (rest_in w key s) ≡ (n - i) * w
+  unfolding rest_in
+  rest_long = simp (length-take, length-drop) (omega (arith, rest_fits))
 
--- what the searches answer, from the lines looked at and the place
-module _ (w : ℕ) (key s : Bytes) (n i : ℕ) (e : n ≡ count_for w key s) (f : i ≡ place_for w key s) where
-  pub line_none : n ≤ i → [] ≡ line_in w key s
-  unfolding line_in
-  line_none h = simp (← f, ← e, le-ltb i n h)
+  pub line_told : line_in w key s ≡ cond (leb w (length (rest_in w key s)) && keyed key (take w (rest_in w key s))) (take w (rest_in w key s)) []
+  unfolding line_in rest_in
+  line_told = go (ltb i n) refl
+    where
+      D : Bytes
+      D = drop (i * w) s
 
-  module _ (h : i < n) (r : Bool) (q : r ≡ same (take (i * w + length key - i * w) (drop (i * w) s)) key) where
-    key_told : same (key_at w (length key) s i) key ≡ r
-    key_told = ap (λ (l : Bytes). same l key) (sym (piece_whole s (i * w) (length key))) ∙ sym q
+      none : (b : Bool) → ◌≡◌ {A = Bytes} [] (cond b (take w []) [])
+      none true = sym (take-nil w)
+      none false = refl
 
-    pub line_miss : r ≡ false → [] ≡ line_in w key s
-    unfolding line_in
-    line_miss t = simp (← f, ← e, lt-ltb i n h, key_told, t)
+      go : (b : Bool) → ltb i n ≡ b → cond (b && same (key_at w (length key) s i) key) (part (i * w) w s) []
+          ≡ cond (leb w (length (take ((n - i) * w) D)) && keyed key (take w (take ((n - i) * w) D))) (take w (take ((n - i) * w) D)) []
+      go false e =
+          let none_left : (n - i) * w ≡ 0 = ap (λ (m : ℕ). m * w) (let z : n - i ≡ 0 = omega (arith, ltb-false i n e) in z) ∙ zero-mul w in
+          none _ ∙ ap (λ (m : ℕ). cond (leb w (length (take m D)) && keyed key (take w (take m D))) (take w (take m D)) []) (sym none_left)
+      go true e =
+          let h : i < n = ltb-true i n e in
+          let some : 1 ≤ n - i = omega arith in
+          let fits : w ≤ (n - i) * w = omega (arith, mul-le-mul_right w some) in
+          let first : take w (take ((n - i) * w) D) ≡ take w D = take-take w ((n - i) * w) D fits in
+          let long : leb w (length (take ((n - i) * w) D)) ≡ true = le-leb w (length (take ((n - i) * w) D)) (omega (arith, rest_long)) in
+          sym ((λ j. cond (leb w (length (take ((n - i) * w) D)) && keyed key (first j)) (first j) [])
+          ∙ (λ j. cond (long j && same (take-take (length key) w D (key_fits w key s i h) j) key) (take w D) []))
 
-    pub line_hit : r ≡ true → take (i * w + w - i * w) (drop (i * w) s) ≡ line_in w key s
-    unfolding line_in
-    line_hit t = piece_whole s (i * w) w ∙ simp (← f, ← e, lt-ltb i n h, key_told, t)
+  pub rows_told : 0 < w → take (length (lead key (lines_in w (rest_in w key s))) * w) (rest_in w key s) ≡ rows_in w key s
+  unfolding rows_in rest_in
+  rows_told some =
+      let ls = lines_from i n w s in
+      let lines : lines_in w (part (i * w) ((n - i) * w) s) ≡ ls = rows_part (i * w) (n - i) w s some rest_fits in
+      let within : length (lead key ls) * w ≤ (n - i) * w =
+      mul-le-mul_right w (subst (λ (m : ℕ). length (lead key ls) ≤ m) (length-rows (n - i) w (drop (i * w) s)) (lead_le key ls))
+      in
+      ap (λ (l : List Bytes). take (length (lead key l) * w) (part (i * w) ((n - i) * w) s)) lines
+      ∙ take-take (length (lead key ls) * w) ((n - i) * w) (drop (i * w) s) within
 
-  pub rows_none : n ≤ i → [] ≡ rows_in w key s
+  pub rows_none : w ≡ 0 → [] ≡ rows_in w key s
   unfolding rows_in
   rows_none h =
-      sym (ap (λ (ls : List Bytes). part (place_for w key s * w) (length (lead key ls) * w) s) (none_left w key s (omega (arith, e, f)))
-      ∙ ap (λ (k : ℕ). part (place_for w key s * w) k s) (zero-mul w))
-
-  pub rows_hit : (z : ℕ) → z ≡ i * w + length (lead key (lines_from i n w s)) * w → take (z - i * w) (drop (i * w) s) ≡ rows_in w key s
-  unfolding rows_in
-  rows_hit z g = ap (λ (k : ℕ). take (k - i * w) (drop (i * w) s)) g ∙ piece_whole s (i * w) _ ∙ simp (← f, ← e)
-
-pub ruleset answers = (line_none, line_miss, line_hit, rows_none, rows_hit)
+      let m = length (lead key (lines_from i n w s)) in
+      sym (ap (λ (k : ℕ). part (i * w) k s) (ap (λ (v : ℕ). m * v) h ∙ mul-zero m))

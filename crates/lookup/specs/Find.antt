@@ -1,5 +1,6 @@
 -- What a search by halves finds, on any bytes. Assumes nothing.
-use Rattle.std.specs.Prelude.{ℕ, zero, suc, ◌+◌, ◌-◌, ◌*◌, ◌/◌, Bool, true, false, cond, ◌&&◌, List, [], ◌∷◌, ltb, length, take, drop}
+use Rattle.std.specs.Prelude.{ℕ, zero, suc, ◌+◌, ◌-◌, ◌*◌, ◌/◌, Bool, true, false, cond, ◌&&◌, List, [], ltb, length, take, drop}
+use Rattle.std.specs.List.{take_while}
 use Rattle.paper.specs.Bytes.{Bytes, same, before, part}
 use Rattle.paper.specs.Pack.{width_of, rows, lines_in, keyed, Blocks, block, Lines}
 
@@ -30,10 +31,13 @@ count_for w key s = cond (ltb w (length key)) 0 (length s / w)
 unfoldable pub place_for : ℕ → Bytes → Bytes → ℕ
 place_for w key s = bisect (below w key s) (count_for w key s) 0 (count_for w key s)
 
+-- the lines from that one on, as bytes
+unfoldable pub rest_in : ℕ → Bytes → Bytes → Bytes
+rest_in w key s = part (place_for w key s * w) ((count_for w key s - place_for w key s) * w) s
+
 -- the first lines, while they have this key
 abbrev pub lead : Bytes → List Bytes → List Bytes
-lead key [] = []
-lead key (l ∷ ls) = cond (keyed key l) (l ∷ lead key ls) []
+lead key ls = take_while (keyed key) ls
 
 -- the lines from line i on, of n
 abbrev pub lines_from : ℕ → ℕ → ℕ → Bytes → List Bytes

@@ -1,129 +1,46 @@
-// The reference pack: whether it is well formed, and where its five blocks of lines stand.
+// The reference pack: whether it is well formed, and its five blocks of lines.
 #![tactic(auto)]
 
-ghost use Rattle.std.specs.Prelude.{◌≡◌, ◌≤◌, ◌<◌, length, get_or};
-ghost use Rattle.paper.specs.Pack.{size_said, kind_said, good_block, good_blocks};
-ghost use Rattle.pack.specs.Shape.{place_at, lines_at, shape_of};
+ghost use Rattle.std.specs.Prelude.{◌≡◌, true, false, MatchOption};
+ghost use Rattle.std.specs.Option.{option_map};
+ghost use Rattle.paper.specs.Pack.{good_block, body, after, lent};
+ghost use Rattle.pack.specs.Shape.{shape_of};
 
 use lines::good_body;
-use text::{byte, piece};
+use paper::Reference;
 
-// Where a block's lines start, and how many bytes they are.
-#[derive(Clone, Copy)]
-pub struct Place {
-    pub start: usize,
-    pub size: usize,
-}
-
-// The places of the blocks of the kinds 1 to 5.
-#[derive(Clone, Copy)]
-pub struct Places {
-    pub one: Place,
-    pub two: Place,
-    pub three: Place,
-    pub four: Place,
-    pub five: Place,
-}
-
-#[derive(Clone, Copy)]
-pub enum Shape {
-    Good(Places),
-    Bad,
-}
-
-fn byte_at(s: &[u8], i: usize) -> usize
-    ensures { (result ≡ get_or s.now i 0) × (result < 256) }
+// The lines of the block of this kind that starts the slice, and what follows the block. Its head says how many bytes its lines have, and
+// its kind.
+#[tactic(auto, unfolding(paper::specs::Pack::good_block, paper::specs::Pack::body, paper::specs::Pack::after, paper::specs::Pack::size_said, paper::specs::Pack::kind_said))]
+fn block(kind: u8, s: &[u8]) -> Option<(&[u8], &[u8])>
+    ensures { MatchOption result (good_block kind s.now ≡ false) (λ b. (good_block kind s.now ≡ true) × (b.0.now ≡ body s.now) × (b.1.now ≡ after s.now)) }
 {
-    byte(s, i) as usize
-}
-
-// What a block's head says: the bytes of its lines, and its kind.
-#[tactic(auto, unfolding(paper::specs::Pack::size_said))]
-fn size_said(s: &[u8]) -> usize
-    ensures { (result ≡ size_said s.now) × (result < 4294967296) }
-{
-    byte_at(s, 0) + byte_at(s, 1) * 256 + byte_at(s, 2) * 65536 + byte_at(s, 3) * 16777216
-}
-
-#[tactic(auto, unfolding(paper::specs::Pack::kind_said))]
-fn kind_said(s: &[u8]) -> usize
-    ensures { result ≡ kind_said s.now }
-{
-    byte_at(s, 4) + byte_at(s, 5) * 256
-}
-
-// A block of this kind starts the slice.
-fn good_block(kind: u8, s: &[u8]) -> bool
-    ensures { result ≡ good_block kind s.now }
-{
-    if s.len() < 6 {
-        return false;
+    let (&[a, b, c, d, e, f], rest) = s.split_first_chunk::<6>()?;
+    if u16::from_le_bytes([e, f]) != u16::from(kind) {
+        return None;
     }
-    if kind_said(s) != kind as usize {
-        return false;
-    }
-    let end = 6 + size_said(s);
-    if s.len() < end {
-        return false;
-    }
-    good_body(kind, &s[6..end])
+    let (lines, rest) = rest.split_at_checked(u32::from_le_bytes([a, b, c, d]) as usize)?;
+    good_body(kind, lines).then_some((lines, rest))
 }
 
-// Five blocks of the kinds from 1 on, and nothing after.
-fn good_blocks(pack: &[u8]) -> bool
-    ensures { result ≡ good_blocks 5 1 pack.now }
-{
-    let mut at = 0;
-    let mut kind: u8 = 1;
-    while kind < 6 {
-        if !good_block(kind, &pack[at..]) {
-            return false;
-        }
-        at += 6 + size_said(&pack[at..]);
-        kind += 1;
-    }
-    at == pack.len()
-}
-
-// Where the lines of the block stand that starts at a place.
-fn place_at(pack: &[u8], at: usize) -> Place
-    requires { (at ≤ length pack.now) × (length pack.now ≤ 65536) }
-    ensures { result ≡ place_at at pack.now }
-{
-    let size = size_said(&pack[at..]);
-    Place {
-        start: at + 6,
-        size,
-    }
-}
-
-// Whether the pack is well formed, and where its blocks stand.
-pub fn check(pack: &[u8]) -> Shape
-    ensures { result ≡ shape_of pack.now }
+// The blocks of a well-formed pack.
+#[tactic(auto, unfolding(crate::specs::Shape::shape_of, paper::specs::Pack::well_formed, paper::specs::Pack::blocks_of, paper::specs::Pack::block_of))]
+pub fn check(pack: &[u8]) -> Option<Reference<'_>>
+    ensures { option_map lent result ≡ shape_of pack.now }
 {
     if 65536 < pack.len() {
-        return Shape::Bad;
+        return None;
     }
-    if !good_blocks(pack) {
-        return Shape::Bad;
-    }
-    let one = place_at(pack, 0);
-    let two = place_at(pack, one.start + one.size);
-    let three = place_at(pack, two.start + two.size);
-    let four = place_at(pack, three.start + three.size);
-    let five = place_at(pack, four.start + four.size);
-    Shape::Good(Places {
-        one,
-        two,
-        three,
-        four,
-        five,
+    let (taxpayers, rest) = block(1, pack)?;
+    let (banks, rest) = block(2, rest)?;
+    let (filed, rest) = block(3, rest)?;
+    let (states, rest) = block(4, rest)?;
+    let (sent, rest) = block(5, rest)?;
+    rest.is_empty().then_some(Reference {
+        taxpayers,
+        banks,
+        filed,
+        states,
+        sent,
     })
-}
-
-// The lines at a place.
-pub fn lines_at(pack: &[u8], place: Place) -> &[u8]
-    ensures { result.now ≡ lines_at place pack.now }
-{
-    piece(pack, place.start, place.size)
 }

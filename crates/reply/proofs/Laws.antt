@@ -1,97 +1,43 @@
--- What is shown of an answer, and a number's own digits. Assumes nothing.
-use Prim.Native.Nat.{ℕ, zero, suc, ◌+◌, ◌-◌, ◌/◌, ◌%◌, ◌≤◌, ◌<◌}
+-- A text and a line end, and a number's own digits. Assumes nothing.
+use Prim.Native.Nat.{ℕ, zero, suc, ◌+◌, ◌-◌, ◌*◌, ◌/◌, ◌%◌, ◌≤◌, ◌<◌}
 use mathlib.Core.Bool.{Bool, true, false, cond}
-use mathlib.Core.List.{[], ◌∷◌, ◌++◌}
-use Rattle.std.proofs.Common.{Option, None, Some}
+use mathlib.Core.List.{List, [], ◌∷◌, ◌++◌, map}
 use mathlib.Core.Path.{◌≡◌, refl, sym, ap, ◌∙◌}
 use native.Mathlib.Omega.{arith}
-use borrow.Author.Tests.{ltb-true, lt-ltb, le-ltb}
+use borrow.Author.Tests.{ltb-true, ltb-false, lt-ltb, le-ltb}
 use lib.Dec.{ltb}
-use lib.ListN.{length, take, drop, length-drop}
-use lib.Seq.{take_all, drop-append_seam, drop-append-le}
-use Rattle.paper.specs.declared.Answer.{Answer}
-use Rattle.paper.specs.declared.Answer.TheVariants.{File, Refused}
-use Rattle.paper.specs.declared.Ask.{Ask}
+use lib.ListN.{length, drop, length-append}
+use lib.Seq.{drop-append_seam, drop-append-le}
+use Rattle.std.proofs.Common.{Option, Some, None, Ok, Err}
+use Rattle.std.specs.Prelude.{count_by}
+use Rattle.std.proofs.lemmas.List.Sums.{sum_by-cons}
 use Rattle.paper.specs.declared.Refusal.{Refusal}
 use Rattle.paper.specs.declared.Refusal.TheVariants.{ShortOutput}
-use Rattle.paper.specs.Bytes.{Bytes, bytes, written, plain, laid}
-use Rattle.paper.specs.Answer.{prescribed, refusal_of, refused_or, answer, refusal_number, number_of, left_by, shown}
-use Rattle.paper.specs.Room.{need_shown, told}
+use Rattle.paper.specs.Answer.{prescribed, refusal_of, refused_or, answer, shown}
+use Rattle.paper.specs.Bytes.{Bytes, written, plain, laid}
 use Rattle.paper.proofs.Numbers.{length-written}
+use Rattle.text.proofs.Laying.{laid_append}
 use Rattle.reply.specs.Digits.{leads}
 
--- THE FILE, OR A REFUSAL
+module _ (out text : Bytes) where
+  pub line_long : length text + 1 ≡ length (text ++ 10 ∷ [])
+  line_long = sym (length-append text (10 ∷ []))
 
-module _ (t pack date name : Bytes) (room : ℕ) where
-  abbrev file : Bytes
-  file = prescribed t pack date name
+  pub line_laid : laid (laid out 0 text) (length text) (10 ∷ []) ≡ laid out 0 (text ++ 10 ∷ [])
+  line_laid = ap (λ (k : ℕ). laid (laid out 0 text) k (10 ∷ [])) (let z : length text ≡ 0 + length text = omega arith in z) ∙ laid_append text (10 ∷ []) out 0
 
-  -- the length that an answer tells is the file's
-  same_length : (n : ℕ) → answer t pack date name room ≡ File n → n ≡ length (prescribed t pack date name)
-  unfolding answer
-  same_length n e = by (refusal_of t pack date name) (ltb room (length file)) e
-    where
-      by : (r : Option Refusal) (short : Bool) → refused_or r (cond short (Refused ShortOutput) (File (length file))) ≡ File n → n ≡ length file
-      by (Some r) short e = cc
-      by None true e = cc
-      by None false e = cc
-
-  pub shows_file : (a : Answer) (n : ℕ) (out out' : Bytes) → a ≡ answer t pack date name room → a ≡ File n → out' ≡ left_by a file out
-      → (n ≡ length (shown (answer t pack date name room) file)) × (out' ≡ laid out 0 (shown (answer t pack date name room) file))
-  shows_file a n out out' ea en eo =
-      let e : answer t pack date name room ≡ File n = sym ea ∙ en in
-      (rw e (same_length n e), rw e (rw en at eo))
-
-  pub shows_refusal : (a : Answer) (r : Refusal) (number k : ℕ) (out out1 out2 : Bytes) → a ≡ answer t pack date name room → a ≡ Refused r → out1 ≡ left_by a file out
-      → number ≡ number_of a → k ≡ 10 → out2 ≡ laid out1 0 (bytes "refused " ++ written 1 number ++ 10 ∷ [])
-      → (k ≡ length (shown (answer t pack date name room) file)) × (out2 ≡ laid out 0 (shown (answer t pack date name room) file))
-  shows_refusal a r number k out out1 out2 ea er e1 en ek e2 =
-      let e : answer t pack date name room ≡ Refused r = sym ea ∙ er in
-      let o : out1 ≡ out = rw er at e1 in
-      let m : number ≡ refusal_number r = rw er at en in
-      (rw e ek, rw e (e2 ∙ (λ i. laid (o i) 0 (bytes "refused " ++ written 1 (m i) ++ 10 ∷ []))))
-
--- THE NEED, a
-
-pub tells_number : (a need : Answer) (n k : ℕ) (out out' : Bytes) → a ≡ need → a ≡ File n → k ≡ length (plain 7 n ++ 10 ∷ []) → out' ≡ laid out 0 (plain 7 n ++ 10 ∷ [])
-    → (k ≡ length (need_shown need)) × (out' ≡ laid out 0 (need_shown need))
-tells_number a need n k out out' ea en ek eo =
-    let e : File n ≡ need = sym en ∙ ea in
-    (ek ∙ ap (λ (x : Answer). length (need_shown x)) e, eo ∙ ap (λ (x : Answer). laid out 0 (need_shown x)) e)
-
-pub tells_refusal : (a need : Answer) (r : Refusal) (number k : ℕ) (out out' : Bytes) → a ≡ need → a ≡ Refused r → number ≡ number_of a → k ≡ 10
-    → out' ≡ laid out 0 (bytes "refused " ++ written 1 number ++ 10 ∷ []) → (k ≡ length (need_shown need)) × (out' ≡ laid out 0 (need_shown need))
-tells_refusal a need r number k out out' ea er en ek eo =
-    let e : Refused r ≡ need = sym er ∙ ea in
-    let m : number ≡ refusal_number r = en ∙ ap number_of er in
-    (ek ∙ ap (λ (x : Answer). length (need_shown x)) e, eo ∙ ap (λ (x : ℕ). laid out 0 (bytes "refused " ++ written 1 x ++ 10 ∷ [])) m ∙ ap (λ (x : Answer). laid out 0 (need_shown x)) e)
-
--- WHAT IS ASKED
-
-pub asked_as : (x y : Ask) (t pack date name : Bytes) (n k : ℕ) (out out' : Bytes) → x ≡ y → k ≡ length (told y t pack date name n) → out' ≡ laid out 0 (told y t pack date name n)
-    → (k ≡ length (told x t pack date name n)) × (out' ≡ laid out 0 (told x t pack date name n))
-asked_as x y t pack date name n k out out' e ek eo =
-    (ek ∙ ap (λ (z : Ask). length (told z t pack date name n)) (sym e), eo ∙ ap (λ (z : Ask). laid out 0 (told z t pack date name n)) (sym e))
+-- the length that an answer tells is the file's
+pub file_long : (t pack date name : Bytes) (room n : ℕ) → answer t pack date name room ≡ Ok n
+    → n ≡ length (shown (answer t pack date name room) (prescribed t pack date name))
+unfolding answer
+file_long t pack date name room n e = rw e (by (refusal_of t pack date name) (ltb room (length (prescribed t pack date name))) e)
+  where
+    by : (r : Option Refusal) (short : Bool) → refused_or r (cond short (Err ShortOutput) (Ok (length (prescribed t pack date name)))) ≡ Ok n → n ≡ length (prescribed t pack date name)
+    by (Some r) short e = cc
+    by None true e = cc
+    by None false e = cc
 
 -- A NUMBER'S OWN DIGITS
-
-module _ (w n : ℕ) where
-  pub leads_here : 0 < w → n < 10 → leads w n ≡ w - 1
-  leads_here h l = by w h
-    where
-      by : (k : ℕ) → 0 < k → leads k n ≡ k - 1
-      by zero h = absurd (omega arith)
-      by (suc k) h = rw (lt-ltb n 10 l) (omega arith)
-
-  pub leads_on : 0 < w → 10 ≤ n → leads w n ≡ leads (w - 1) (n / 10)
-  leads_on h l = by w h
-    where
-      by : (k : ℕ) → 0 < k → leads k n ≡ leads (k - 1) (n / 10)
-      by zero h = absurd (omega arith)
-      by (suc k) h = let z : suc k - 1 ≡ k = omega arith in rw (le-ltb n 10 l, z)
-
-  pub leads_end : w ≤ 0 → leads w n ≡ 0
-  leads_end h = ap (λ (k : ℕ). leads k n) (let z : w ≡ 0 = omega arith in z)
 
 leads_few : (w n : ℕ) → leads w n ≤ w
 leads_few zero n = omega arith
@@ -101,7 +47,7 @@ leads_few (suc w) n = by (ltb n 10) (leads_few w (n / 10))
     by true h = omega arith
     by false h = omega arith
 
-plain_drop : (w n : ℕ) → plain w n ≡ drop (leads w n) (written w n)
+pub plain_drop : (w n : ℕ) → plain w n ≡ drop (leads w n) (written w n)
 plain_drop zero n = refl
 plain_drop (suc w) n = by (ltb n 10) refl (plain_drop w (n / 10))
   where
@@ -120,19 +66,38 @@ plain_drop (suc w) n = by (ltb n 10) refl (plain_drop w (n / 10))
         let f : leads w (n / 10) ≤ length front = omega (arith, leads_few w (n / 10), length-written w (n / 10)) in
         ap (λ (x : Bytes). x ++ last) ih ∙ sym (drop-append-le (leads w (n / 10)) front last f)
 
--- a line of eight bytes from there on: the number and the line end
-module _ (n from : ℕ) (line : Bytes) (el : line ≡ written 7 n ++ 10 ∷ []) (ef : from ≡ leads 7 n) where
-  rest : drop from line ≡ plain 7 n ++ 10 ∷ []
-  rest =
-      let f : leads 7 n ≤ length (written 7 n) = omega (arith, leads_few 7 n, length-written 7 n) in
-      (λ i. drop (ef i) (el i)) ∙ drop-append-le (leads 7 n) (written 7 n) (10 ∷ []) f ∙ ap (λ (x : Bytes). x ++ 10 ∷ []) (sym (plain_drop 7 n))
+-- powers of ten, 10 the lowest
+abbrev pub powers : ℕ → List ℕ
+powers zero = []
+powers (suc w) = 10 ∷ map (λ x. x * 10) (powers w)
 
-  pub rest_long : 8 - from ≡ length (plain 7 n ++ 10 ∷ [])
-  rest_long =
-      let wide : length line ≡ 8 = ap length el in
-      omega (arith, ap length rest, length-drop from line)
+tenth : (n p : ℕ) → ltb n (p * 10) ≡ ltb (n / 10) p
+tenth n p = go (ltb (n / 10) p) refl
+  where
+    go : (b : Bool) → ltb (n / 10) p ≡ b → ltb n (p * 10) ≡ b
+    go true e = let h : n / 10 < p = ltb-true (n / 10) p e in lt-ltb n (p * 10) (omega arith)
+    go false e = let h : p ≤ n / 10 = ltb-false (n / 10) p e in le-ltb n (p * 10) (omega arith)
 
-  pub rest_laid : (out out' : Bytes) → out' ≡ laid out 0 (take (8 - from) (drop from line)) → out' ≡ laid out 0 (plain 7 n ++ 10 ∷ [])
-  rest_laid out out' e =
-      let whole : length (drop from line) ≤ 8 - from = omega (arith, ap length rest, rest_long) in
-      e ∙ ap (laid out 0) (take_all (8 - from) (drop from line) whole ∙ rest)
+one_more : (n x : ℕ) (s : List ℕ) → count_by (ltb n) (x ∷ s) ≡ cond (ltb n x) 1 0 + count_by (ltb n) s
+one_more n x s = sum_by-cons (λ (y : ℕ). cond (ltb n y) 1 0) x s
+
+tenths : (n : ℕ) (s : List ℕ) → count_by (ltb n) (map (λ x. x * 10) s) ≡ count_by (ltb (n / 10)) s
+tenths n [] = refl
+tenths n (x ∷ s) = one_more n (x * 10) (map (λ y. y * 10) s) ∙ (λ i. cond (tenth n x i) 1 0 + tenths n s i) ∙ sym (one_more (n / 10) x s)
+
+-- as many of them are above a number as zeros stand before it
+pub zeros_are : (w n : ℕ) → count_by (ltb n) (powers w) ≡ leads (suc w) n
+zeros_are zero n = by (ltb n 10)
+  where
+    by : (b : Bool) → ◌≡◌ {A = ℕ} 0 (cond b 0 0)
+    by true = refl
+    by false = refl
+zeros_are (suc w) n =
+    one_more n 10 (map (λ x. x * 10) (powers w)) ∙ ap (λ (k : ℕ). cond (ltb n 10) 1 0 + k) (tenths n (powers w) ∙ zeros_are w (n / 10)) ∙ by (ltb n 10) refl
+  where
+    by : (b : Bool) → ltb n 10 ≡ b → cond b 1 0 + leads (suc w) (n / 10) ≡ cond b (suc w) (leads (suc w) (n / 10))
+    by true e =
+        let l : n < 10 = ltb-true n 10 e in
+        let k : leads (suc w) (n / 10) ≡ w = ap (λ (b : Bool). cond b w (leads w (n / 10 / 10))) (lt-ltb (n / 10) 10 (omega arith)) in
+        omega arith
+    by false e = omega arith

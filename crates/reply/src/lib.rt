@@ -1,94 +1,67 @@
 // What a program writes for a transmission: the acknowledgment file, or how much room it needs; or "refused ", the number and a line end.
 #![tactic(auto)]
 
-ghost use Rattle.std.specs.Prelude.{◌≡◌, [], ◌∷◌, ◌++◌, ◌≤◌, length};
-ghost use Rattle.paper.specs.Bytes.{bytes, written, plain, laid};
-ghost use Rattle.paper.specs.Answer.{prescribed, answer, shown};
+ghost use Rattle.std.specs.Prelude.{◌≡◌, [], ◌∷◌, ◌++◌, ◌≤◌, ltb, length, count_by};
+ghost use Rattle.paper.specs.Bytes.{plain, laid};
+ghost use Rattle.paper.specs.Answer.{prescribed, answer, refusal_line, shown};
 ghost use Rattle.paper.specs.Room.{need, need_shown, told};
 ghost use Rattle.reply.specs.Digits.{leads};
 
-use paper::{Answer, Ask};
+use paper::{Ask, Refusal};
 
-const LINE_END: u8 = b'\n';
-
-fn refusal_line(number: u32) -> [u8; 10]
-    ensures { result ≡ bytes "refused " ++ written 1 number ++ 10 ∷ [] }
+// A text and a line end, laid at the front of out; and their length.
+#[tactic(auto, using(crate::proofs::Laws::line_long, crate::proofs::Laws::line_laid))]
+fn put_line(out: &mut [u8], text: &[u8]) -> usize
+    requires { length text.now ≤ 9 }
+    ensures value { result ≡ length (text.now ++ 10 ∷ []) }
+    ensures out_after { out.new ≡ laid out.old 0 (text.now ++ 10 ∷ []) }
 {
-    [
-        b'r',
-        b'e',
-        b'f',
-        b'u',
-        b's',
-        b'e',
-        b'd',
-        b' ',
-        (number % 10) as u8 + 48,
-        LINE_END,
-    ]
+    text::lay(out, 0, text);
+    text::lay(out, text.len(), b"\n");
+    text.len() + 1
 }
 
-// That line, laid at the front of out; and its length.
-fn put_refusal(number: u32, out: &mut [u8]) -> usize
-    ensures value { result ≡ 10 }
-    ensures out_after { out.new ≡ laid out.old 0 (bytes "refused " ++ written 1 number ++ 10 ∷ []) }
+fn put_refusal(out: &mut [u8], r: Refusal) -> usize
+    ensures value { result ≡ length (refusal_line r) }
+    ensures out_after { out.new ≡ laid out.old 0 (refusal_line r) }
 {
-    let line = refusal_line(number);
-    text::lay(out, 0, &line);
-    10
+    let [digit] = text::written::<1>(u64::from(r.number()));
+    let mut text = *b"refused 0";
+    text[8] = digit;
+    put_line(out, &text)
 }
 
-fn number_line(n: usize) -> [u8; 8]
-    ensures { result ≡ written 7 n ++ 10 ∷ [] }
+fn count_above(n: usize, numbers: &[usize]) -> usize
+    ensures { result ≡ count_by (ltb n) numbers.now }
 {
-    [
-        (n / 10 / 10 / 10 / 10 / 10 / 10 % 10) as u8 + 48,
-        (n / 10 / 10 / 10 / 10 / 10 % 10) as u8 + 48,
-        (n / 10 / 10 / 10 / 10 % 10) as u8 + 48,
-        (n / 10 / 10 / 10 % 10) as u8 + 48,
-        (n / 10 / 10 % 10) as u8 + 48,
-        (n / 10 % 10) as u8 + 48,
-        (n % 10) as u8 + 48,
-        LINE_END,
-    ]
+    numbers.iter().filter(|x| n < **x).count()
 }
 
-// The zeros before a number in seven digits.
+// The zeros before a number in seven digits: as many as powers of ten are above it, 10 the lowest.
 fn zeros_before(n: usize) -> usize
-    ensures { (result ≡ leads 7 n) × (result ≤ 7) }
+    ensures { result ≡ leads 7 n }
 {
-    let mut left = n;
-    let mut zeros: usize = 7;
-    while 0 < zeros {
-        zeros -= 1;
-        if left < 10 {
-            return zeros;
-        }
-        left /= 10;
-    }
-    0
+    count_above(n, &[10, 100, 1_000, 10_000, 100_000, 1_000_000])
 }
 
-// The number without them and a line end, laid at the front of out; and their length.
-fn put_number(n: usize, out: &mut [u8]) -> usize
+// The number without them.
+fn put_number(out: &mut [u8], n: usize) -> usize
     ensures value { result ≡ length (plain 7 n ++ 10 ∷ []) }
     ensures out_after { out.new ≡ laid out.old 0 (plain 7 n ++ 10 ∷ []) }
 {
-    let line = number_line(n);
-    let from = zeros_before(n);
-    text::lay(out, 0, &line[from..]);
-    8 - from
+    let digits = text::written::<7>(n as u64);
+    put_line(out, &digits[zeros_before(n)..])
 }
 
 // The reply, laid at the front of out, which is the output that is lent; and its length. What would stand past the last byte is left out.
+#[tactic(auto, using(crate::proofs::Laws::file_long))]
 pub fn reply(t: &[u8], pack: &[u8], date: &[u8], name: &[u8], out: &mut [u8]) -> usize
     ensures value { result ≡ length (shown (answer t.now pack.now date.now name.now (length out.old)) (prescribed t.now pack.now date.now name.now)) }
     ensures out_after { out.new ≡ laid out.old 0 (shown (answer t.now pack.now date.now name.now (length out.old)) (prescribed t.now pack.now date.now name.now)) }
 {
-    let a = ack::acknowledge(t, pack, date, name, out);
-    match a {
-        Answer::File(n) => n,
-        Answer::Refused(_) => put_refusal(ack::number_of(a), out),
+    match ack::acknowledge(t, pack, date, name, out) {
+        Ok(n) => n,
+        Err(r) => put_refusal(out, r),
     }
 }
 
@@ -97,10 +70,9 @@ fn room(t: &[u8], pack: &[u8], date: &[u8], name: &[u8], out: &mut [u8]) -> usiz
     ensures value { result ≡ length (need_shown (need t.now pack.now date.now name.now)) }
     ensures out_after { out.new ≡ laid out.old 0 (need_shown (need t.now pack.now date.now name.now)) }
 {
-    let a = ack::need(t, pack, date, name);
-    match a {
-        Answer::File(n) => put_number(n, out),
-        Answer::Refused(_) => put_refusal(ack::number_of(a), out),
+    match ack::need(t, pack, date, name) {
+        Ok(n) => put_number(out, n),
+        Err(r) => put_refusal(out, r),
     }
 }
 

@@ -1,74 +1,64 @@
 // What becomes of a transmission: it is refused, rejected whole, or its documents are judged.
 #![tactic(auto)]
 
-ghost use Rattle.std.specs.Prelude.{◌≡◌, ◌≤◌, length};
+ghost use Rattle.std.specs.Prelude.{◌≡◌};
 ghost use Rattle.paper.specs.Answer.{file_name};
-ghost use Rattle.route.specs.Way.{by_marks, by_digits, route_of};
+ghost use Rattle.paper.specs.Pack.{lent};
+ghost use Rattle.route.specs.Way.{course, told, by_marks, by_digits, route_of};
 
 use kinds::{PRINTABLE, all_of};
-use pack::{Places, Shape};
-use paper::{Codes, Layout, Refusal};
-use walk::Outer;
+use paper::{Codes, Layout, Reference, Refusal};
 
-// Refused; rejected whole with these codes; or so many documents are judged, by the pack whose blocks stand at these places.
+// Rejected whole with these codes; or so many documents are judged, by these blocks of the pack.
 #[derive(Clone, Copy)]
-pub enum Route {
-    Refuse(Refusal),
+pub enum Way<'a> {
     Reject(Codes),
-    Judge(usize, Places),
+    Judge(usize, Reference<'a>),
 }
 
-fn by_marks(before: bool, differs: bool, n: usize, places: Places) -> Route
-    ensures { result ≡ by_marks before differs n places }
+fn by_marks(before: bool, differs: bool, n: usize, blocks: Reference<'_>) -> Way<'_>
+    ensures { course result ≡ by_marks before differs n (lent blocks.entry) }
 {
-    if before {
-        if differs {
-            return Route::Reject(Codes::C0822And0840);
-        }
-        return Route::Reject(Codes::C0822);
+    match (before, differs) {
+        (true, true) => Way::Reject(Codes::C0822And0840),
+        (true, false) => Way::Reject(Codes::C0822),
+        (false, true) => Way::Reject(Codes::C0840),
+        (false, false) => Way::Judge(n, blocks),
     }
-    if differs {
-        return Route::Reject(Codes::C0840);
-    }
-    Route::Judge(n, places)
 }
 
 // 0822: the 12 digits were sent before; 0840: RECAP has others.
-fn by_digits(t: &[u8], n: usize, places: Places, sent: &[u8]) -> Route
-    requires { 120 ≤ length t.now }
-    ensures { result ≡ by_digits t.now n places sent.now }
+#[tactic(auto, using(lookup::proofs::Runs::equal_same, walk::proofs::Laws::tail), unfolding(crate::specs::Way::by_digits, paper::specs::Walk::twelve, paper::specs::Walk::twelve_again))]
+fn by_digits<'a>(t: &[u8], n: usize, blocks: Reference<'a>) -> Way<'a>
+    ensures { course result ≡ by_digits t.now n (lent blocks.entry) }
 {
-    let from = t.len() - 120;
-    let twelve = layout::through(Layout::LTrana, 60, 80, &t[0..120]);
-    let again = layout::through(Layout::LRecap, 40, 60, &t[from..]);
-    let line = lookup::line_of(sent, 12, twelve);
-    by_marks(line.len() != 0, !text::is_same(again, twelve), n, places)
+    let twelve = layout::through(Layout::LTrana, 60, 80, text::piece(t, 0, 120));
+    let again = layout::through(Layout::LRecap, 40, 60, &t[t.len().saturating_sub(120)..]);
+    let sent = lookup::line_of(blocks.sent, 12, twelve);
+    by_marks(!sent.is_empty(), twelve != again, n, blocks)
 }
 
 #[tactic(auto, unfolding(paper::specs::Answer::file_name), using(kinds::proofs::Ranges::printable_kind))]
 fn is_file_name(s: &[u8]) -> bool
     ensures { result ≡ file_name s.now }
 {
-    let kinds = kinds::table();
-    (s.len() == 20) & all_of(kinds, PRINTABLE, s)
+    s.len() == 20 && all_of(kinds::table(), PRINTABLE, s)
 }
 
 // Refusals 1, 2 and 3, the lowest that applies; then 0823; then 0822 and 0840.
-pub fn choose(t: &[u8], pack: &[u8], date: &[u8], name: &[u8]) -> Route
-    ensures { result ≡ route_of t.now pack.now date.now name.now }
+#[tactic(auto, unfolding(crate::specs::Way::route_of, paper::specs::Answer::refusal_of, pack::specs::Shape::shape_of))]
+pub fn choose<'a>(t: &[u8], pack: &'a [u8], date: &[u8], name: &[u8]) -> Result<Way<'a>, Refusal>
+    ensures { told result ≡ route_of t.now pack.now date.now name.now }
 {
     if 65536 < t.len() {
-        return Route::Refuse(Refusal::LongTransmission);
+        return Err(Refusal::LongTransmission);
     }
-    let Shape::Good(places) = pack::check(pack) else {
-        return Route::Refuse(Refusal::BadPack);
-    };
-    if !(date::valid_date(date) & is_file_name(name)) {
-        return Route::Refuse(Refusal::BadDateOrName);
+    let blocks = pack::check(pack).ok_or(Refusal::BadPack)?;
+    if !(date::valid_date(date) && is_file_name(name)) {
+        return Err(Refusal::BadDateOrName);
     }
-    let Outer::Sound(n) = walk::structure(t) else {
-        return Route::Reject(Codes::C0823);
+    let Some(n) = walk::structure(t) else {
+        return Ok(Way::Reject(Codes::C0823));
     };
-    let sent = pack::lines_at(pack, places.five);
-    by_digits(t, n, places, sent)
+    Ok(by_digits(t, n, blocks))
 }

@@ -30,29 +30,24 @@ part_every p zero (suc w) zero (suc v) (x ∷ s) g h e =
     let b = both (p x) (every p (take w s)) e in
     rw b.0 (part_every p zero w zero v s (omega arith) (omega arith) b.1)
 
--- where 0100 to 0220 stand
-stretch : (own : Bytes) → through LSummary 100 220 own ≡ part 114 160 own
-unfolding through entry summary
-stretch own = refl
-
--- a rule on a reserve that stands there
-abbrev inside : ℕ → Bool
-inside rule =
+-- a rule on a reserve that stands from byte a to byte z
+abbrev inside : ℕ → ℕ → ℕ → Bool
+inside a z rule =
     eqb (rule % 10000) 14
-    && (leb 114 (entry LSummary (rule / 10000)).start && leb ((entry LSummary (rule / 10000)).start + (entry LSummary (rule / 10000)).width) 274)
+    && (leb a (entry LSummary (rule / 10000)).start && leb ((entry LSummary (rule / 10000)).start + (entry LSummary (rule / 10000)).width) z)
 
 abbrev breaks : Bytes → ℕ → Bool
 breaks own rule = summary_holds (rule / 10000) (rule % 10000) [] own
 
-inside_kept : (own : Bytes) → blank (part 114 160 own) ≡ true → (rule : ℕ) → inside rule ≡ true → breaks own rule ≡ false
+inside_kept : (own : Bytes) (a w : ℕ) → blank (part a w own) ≡ true → (rule : ℕ) → inside a (a + w) rule ≡ true → breaks own rule ≡ false
 unfolding summary_holds pick field
-inside_kept own h rule e =
+inside_kept own a w h rule e =
     let f = entry LSummary (rule / 10000) in
-    let a = both (eqb (rule % 10000) 14) (leb 114 f.start && leb (f.start + f.width) 274) e in
-    let b = both (leb 114 f.start) (leb (f.start + f.width) 274) a.1 in
-    let g : 114 ≤ f.start = leb-true 114 f.start b.0 in
-    let k : f.start + f.width ≤ 274 = leb-true (f.start + f.width) 274 b.1 in
-    rw (eqb-true (rule % 10000) 14 a.0, part_every is_space 114 160 f.start f.width own g k h)
+    let b = both (eqb (rule % 10000) 14) (leb a f.start && leb (f.start + f.width) (a + w)) e in
+    let c = both (leb a f.start) (leb (f.start + f.width) (a + w)) b.1 in
+    let g : a ≤ f.start = leb-true a f.start c.0 in
+    let k : f.start + f.width ≤ a + w = leb-true (f.start + f.width) (a + w) c.1 in
+    rw (eqb-true (rule % 10000) 14 b.0, part_every is_space a w f.start f.width own g k h)
 
 -- a rule that is not broken moves a set by one place
 kept_on : (t : ℕ) → bit_on false t ≡ t * 2 % 18446744073709551616
@@ -71,10 +66,18 @@ module _ (p q : ℕ → Bool) (kept : (x : ℕ) → q x ≡ true → p x ≡ fal
       ∙ mul-mod_first t 2 18446744073709551616
       ∙ ap (λ (k : ℕ). k % 18446744073709551616) (mul_assoc later (2 ^ length s) 2 ∙ ap (λ (k : ℕ). later * k) (sym (pow-suc 2 (length s))))
 
--- the 21 rules on 0100 to 0220 before a set, where t, the bytes that hold the fields, is blank
-pub reserves_kept : (own t : Bytes) (set later : ℕ) → t ≡ through LSummary 100 220 own → blank t ≡ true → set < 18446744073709551616 → set ≡ later
-    → set * 2097152 % 18446744073709551616 ≡ bits_on (breaks own) (take 21 (drop 14 summary_rules)) later
-unfolding summary_rules entry summary
-reserves_kept own t set later u h l e =
-    sym (bits_kept (breaks own) inside (inside_kept own (rw (← stretch own, ← u) h)) (take 21 (drop 14 summary_rules)) set refl l)
-    ∙ ap (bits_on (breaks own) (take 21 (drop 14 summary_rules))) e
+-- the rules on 0050 to 0080 and on 0100 to 0220 before a set, where t, the bytes that hold the fields, is blank
+module _ (own t : Bytes) (set later : ℕ) (h : blank t ≡ true) (l : set < 18446744073709551616) (e : set ≡ later) where
+  pub kept_50 : t ≡ through LSummary 50 80 own → set * 128 % 18446744073709551616 ≡ bits_on (breaks own) (take 7 (drop 6 summary_rules)) later
+  unfolding summary_rules through entry summary
+  kept_50 u =
+      let b : blank (part 95 15 own) ≡ true = ap blank (sym u) ∙ h in
+      sym (bits_kept (breaks own) (inside 95 110) (inside_kept own 95 15 b) (take 7 (drop 6 summary_rules)) set refl l)
+      ∙ ap (bits_on (breaks own) (take 7 (drop 6 summary_rules))) e
+
+  pub kept_100 : t ≡ through LSummary 100 220 own → set * 2097152 % 18446744073709551616 ≡ bits_on (breaks own) (take 21 (drop 14 summary_rules)) later
+  unfolding summary_rules through entry summary
+  kept_100 u =
+      let b : blank (part 114 160 own) ≡ true = ap blank (sym u) ∙ h in
+      sym (bits_kept (breaks own) (inside 114 274) (inside_kept own 114 160 b) (take 21 (drop 14 summary_rules)) set refl l)
+      ∙ ap (bits_on (breaks own) (take 21 (drop 14 summary_rules))) e

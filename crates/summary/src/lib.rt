@@ -66,22 +66,26 @@ fn and_reserves(fields: &[u32], own: &[u8], later: u64) -> u64
 }
 
 // The rules on 0050 to 0090, before later ones.
-#[tactic(auto, unfolding(paper::specs::Conditions::summary_holds, paper::specs::Conditions::pick, paper::specs::Conditions::summary0010))]
+#[tactic(auto, unfolding(paper::specs::Conditions::summary_holds, paper::specs::Conditions::pick, paper::specs::Conditions::summary0010, paper::specs::Conditions::summary_rules), using(crate::proofs::Laws::kept_50))]
 fn of_50_to_90(own: &[u8], later: u64) -> u64
     ensures { result ≡ bits_on (λ (rule : ℕ). summary_holds (rule / 10000) (rule % 10000) [] own.now) (500014 ∷ 550014 ∷ 600014 ∷ 630014 ∷ 700014 ∷ 750014 ∷ 800014 ∷ 900010 ∷ []) later }
 {
     let set = words::and_rule(!kinds::digits(field_of(LSummary, 90, own)), later);
+    if text::blank(through(LSummary, 50, 80, own)) {
+        // None of the other seven: the set moves by as many places.
+        return set << 7;
+    }
     and_reserves(&[50, 55, 60, 63, 70, 75, 80], own, set)
 }
 
 // The rules on 0100 to 0250, all in reserve, before later ones.
-#[tactic(auto, unfolding(paper::specs::Conditions::summary_holds, paper::specs::Conditions::pick, paper::specs::Conditions::summary_rules), using(crate::proofs::Laws::reserves_kept))]
+#[tactic(auto, unfolding(paper::specs::Conditions::summary_holds, paper::specs::Conditions::pick, paper::specs::Conditions::summary_rules), using(crate::proofs::Laws::kept_100))]
 fn of_reserves(own: &[u8], later: u64) -> u64
     ensures { result ≡ bits_on (λ (rule : ℕ). summary_holds (rule / 10000) (rule % 10000) [] own.now) (1000014 ∷ 1100014 ∷ 1200014 ∷ 1300014 ∷ 1330014 ∷ 1350014 ∷ 1400014 ∷ 1500014 ∷ 1700014 ∷ 1800014 ∷ 1850014 ∷ 1880014 ∷ 1890014 ∷ 1900014 ∷ 1950014 ∷ 2000014 ∷ 2100014 ∷ 2150014 ∷ 2170014 ∷ 2190014 ∷ 2200014 ∷ 2500014 ∷ []) later }
 {
-    let set = and_reserves(&[250], own, later);
+    let set = words::and_rule(!text::blank(field_of(LSummary, 250, own)), later);
     if text::blank(through(LSummary, 100, 220, own)) {
-        // None of the other 21: the set moves by 21 places, and what would pass the 64th is lost.
+        // None of the other 21: the set moves by as many places, and what would pass the 64th is lost.
         return set << 21;
     }
     and_reserves(
@@ -107,7 +111,7 @@ fn of_260_to_290(own: &[u8], later: u64) -> u64
     let no_zone = text::blank(zone);
     // 0491: some of the three present, at each that is blank.
     let some = !no_day || !no_time || !no_zone;
-    let set = and_reserves(&[290], own, later);
+    let set = words::and_rule(!text::blank(field_of(LSummary, 290, own)), later);
     let set = words::and_rule(no_zone && some, set);
     let set = words::and_rule(!words::one_of(b"ECGMPAH ", zone), set);
     let set = words::and_rule(no_time && some, set);

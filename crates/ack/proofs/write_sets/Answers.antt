@@ -1,44 +1,44 @@
-use Rattle.std.proofs.Common.{rules, length, refl, ap, ◌∙◌}
-use Rattle.ack.proofs.Back.{listed_long}
-use Rattle.ack.proofs.Tour.{write_start, write_fits, write_from, write_on, write_end, tour_fits}
+use Rattle.std.proofs.Common.{◌≡◌, ◌≤◌, rules, ◌∙◌, arith}
+use Rattle.paper.specs.Bytes.{bit}
+use Rattle.paper.specs.Judge.{is_a}
+use Rattle.ack.proofs.Tour.{bit_le, write_start, write_fits, write_on, write_end, tour_fits}
 use Rattle.ack.proofs.write_sets.Goals as goal
 
-pub loop-i-init : goal.loop-i-init
-loop-i-init c = (write_start _ _ _ _ _ _ _ c.requires.0 refl c.no_past-past.ensures, refl)
+pub loop-init : goal.loop-init
+loop-init c = write_start _ _ _ _ _ _ c.requires.0 c.new-past.ensures
 
 pub overflow_add-end : goal.overflow_add-end
 overflow_add-end c =
-    let f = tour_fits _ _ _ _ _ _ _ _ c.loop-i.invariant.0.tour c.loop-i-test.true _ c.judge-judged.ensures.value in
+    let f = tour_fits _ _ _ _ _ _ _ c.loop.invariant.tour c.loop-test.true _ c.judge-j.ensures.value in
     search rules
 
-pub slice_bounds-put_set-end-in-loop-i : goal.slice_bounds-put_set-end-in-loop-i
-slice_bounds-put_set-end-in-loop-i c =
-    let f = tour_fits _ _ _ _ _ _ _ _ c.loop-i.invariant.0.tour c.loop-i-test.true _ c.judge-judged.ensures.value in
+pub slice_bounds-put_set-end-in-loop : goal.slice_bounds-put_set-end-in-loop
+slice_bounds-put_set-end-in-loop c =
+    let f = tour_fits _ _ _ _ _ _ _ c.loop.invariant.tour c.loop-test.true _ c.judge-j.ensures.value in
     search rules
 
 pub overflow_mul-to : goal.overflow_mul-to
 overflow_mul-to c =
-    let f = tour_fits _ _ _ _ _ _ _ _ c.loop-i.invariant.0.tour c.loop-i-test.true _ c.judge-judged.ensures.value in
+    let f = tour_fits _ _ _ _ _ _ _ c.loop.invariant.tour c.loop-test.true _ c.judge-j.ensures.value in
     search rules
 
 pub overflow_add-to : goal.overflow_add-to
 overflow_add-to c =
-    let f = tour_fits _ _ _ _ _ _ _ _ c.loop-i.invariant.0.tour c.loop-i-test.true _ c.judge-judged.ensures.value in
+    let f = tour_fits _ _ _ _ _ _ _ c.loop.invariant.tour c.loop-test.true _ c.judge-j.ensures.value in
     search rules
 
-pub overflow_add-to-in-loop-i : goal.overflow_add-to-in-loop-i
-overflow_add-to-in-loop-i c =
-    let f = tour_fits _ _ _ _ _ _ _ _ c.loop-i.invariant.0.tour c.loop-i-test.true _ c.judge-judged.ensures.value in
-    let w = write_fits _ _ _ _ _ _ _ _ _ _ _ _ c.loop-i.invariant.0 c.loop-i-test.true _ c.judge-judged.ensures.value c.requires.1 in
+pub overflow_add-to-in-loop : goal.overflow_add-to-in-loop
+overflow_add-to-in-loop c =
+    let f = tour_fits _ _ _ _ _ _ _ c.loop.invariant.tour c.loop-test.true _ c.judge-j.ensures.value in
+    let w = write_fits _ _ _ _ _ _ _ _ _ _ _ c.loop.invariant c.loop-test.true _ c.judge-j.ensures.value c.requires.1 in
     search rules
 
-pub loop-i-preserved : goal.loop-i-preserved
-loop-i-preserved c = (
-  write_from _ _ _ _ _ _ _ _ _ _ _ _ _ c.stand_at-next.ensures
-      (write_on _ _ _ _ _ _ _ _ _ _ _ _ c.loop-i.invariant.0 c.loop-i-test.true _ c.judge-judged.ensures.value c.requires.1 _ _ _ _ _
-      c.judge-judged.ensures.row_becomes c.loop-i.invariant.1 c.judge-judged.ensures.list_after c.one_if-accepted.ensures.0 c.one_if-accepted.ensures.1 c.put_set.ensures),
-  ap length c.judge-judged.ensures.list_after ∙ listed_long _ _ ∙ c.loop-i.invariant.1,
-)
+pub loop-preserved : goal.loop-preserved
+loop-preserved c =
+    let one : c.from-accepted.result ≡ bit (is_a c.judge-j.result.letter) = search rules in
+    let few : c.from-accepted.result ≤ 1 = omega (arith, one, bit_le (is_a c.judge-j.result.letter)) in
+    write_on _ _ _ _ _ _ _ _ _ _ _ c.loop.invariant c.loop-test.true _ c.judge-j.ensures.value c.requires.1 _ _ _ _
+    c.judge-j.ensures.past_becomes (c.as_slice.ensures.value ∙ c.judge-j.ensures.list_after) one few c.put_set.ensures
 
 pub returns : goal.returns
-returns c = write_end _ _ _ _ _ _ _ _ _ _ _ _ c.loop-i.invariant.0 c.loop-i-test.false
+returns c = write_end _ _ _ _ _ _ _ _ _ _ _ c.loop.invariant c.loop-test.false

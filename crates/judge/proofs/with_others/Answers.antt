@@ -1,55 +1,29 @@
-use Rattle.std.proofs.Common.{◌+◌, refl, arith}
+use Rattle.std.proofs.Common.{arith}
 use Rattle.judge.specs.Kept.{held}
-use Rattle.judge.proofs.Found.{form_size, form_fits, ran_start, ran_fits, ran_on, ran_end}
+use Rattle.judge.proofs.Found.{form_size, form_fits, ran_start, ran_on, ran_end}
 use Rattle.judge.proofs.with_others.Goals as goal
-
-pub overflow_add-end : goal.overflow_add-end
-overflow_add-end c =
-    let a = c.args in
-    let q = c.requires in
-    let f = form_fits a.t.now a.at a.doc a.form.now q.0 q.1 q.2 in
-    omega (arith, f.1)
 
 pub overflow_add-to : goal.overflow_add-to
 overflow_add-to c =
     let a = c.args in
     let q = c.requires in
-    let f = form_fits a.t.now a.at a.doc a.form.now q.0 q.1 q.2 in
-    omega (arith, f.0, form_size a.t.now a.at a.doc a.form.now q.0 q.1 q.2)
+    omega (arith, form_fits a.t.now a.at a.form.now q.0 q.1)
 
-pub loop-to-init : goal.loop-to-init
-loop-to-init c =
+pub loop-record-init : goal.loop-record-init
+loop-record-init c =
     let a = c.args in
     let q = c.requires in
-    ran_start a.t.now a.at a.doc a.form.now q.0 q.1 q.2 a.banks.now a.payer.now a.spouse.now (held a.list.now a.first) q.3 q.4
+    ran_start a.t.now a.at a.form.now q.0 q.1 a.banks.now a.payer.now a.spouse.now a.facts (held a.list.now.items a.first) c.into_iter-record-iterator.result.left.now q.2 q.3 (cc)
 
-pub overflow_add-next : goal.overflow_add-next
-overflow_add-next c =
-    let a = c.args in
-    let f = ran_fits a.banks.now a.form.now a.payer.now a.spouse.now a.doc.facts a.t.now (a.at + a.doc.size) _ _ _ _ c.loop-to.invariant c.head_at-head.result c.loop-to-test.true c.head_at-head.ensures in
-    omega (arith, f.1)
-
-pub slice_bounds-own-end : goal.slice_bounds-own-end
-slice_bounds-own-end c =
-    let a = c.args in
-    let f = ran_fits a.banks.now a.form.now a.payer.now a.spouse.now a.doc.facts a.t.now (a.at + a.doc.size) _ _ _ _ c.loop-to.invariant c.head_at-head.result c.loop-to-test.true c.head_at-head.ensures in
-    omega (arith, f.1)
-
-pub loop-to-smaller : goal.loop-to-smaller
-loop-to-smaller c =
-    let a = c.args in
-    let f = ran_fits a.banks.now a.form.now a.payer.now a.spouse.now a.doc.facts a.t.now (a.at + a.doc.size) _ _ _ _ c.loop-to.invariant c.head_at-head.result c.loop-to-test.true c.head_at-head.ensures in
-    omega (arith, f.0, c.loop-to-test.true)
-
-pub loop-to-preserved : goal.loop-to-preserved
-loop-to-preserved c =
+pub loop-record-preserved : goal.loop-record-preserved
+loop-record-preserved c =
     let a = c.args in
     let q = c.requires in
     let e = c.collected-found.ensures in
-    ran_on a.banks.now a.form.now a.payer.now a.spouse.now a.doc.facts a.t.now (a.at + a.doc.size) _ _ _ _ c.loop-to.invariant c.head_at-head.result c.loop-to-test.true c.head_at-head.ensures _ _ _ refl
-    (form_size a.t.now a.at a.doc a.form.now q.0 q.1 q.2) c.bank_of-bank.ensures c.others-set.ensures _ _ e.result_after e.rows_bound.0 e.rows_bound.1 c.counted-before.ensures
+    ran_on a.banks.now a.form.now a.payer.now a.spouse.now a.facts a.t.now _ _ _ _ _ c.loop-record.invariant _ _ _ c.in-Some.ensures.steps _ _
+    (form_size a.t.now a.at a.form.now q.0 q.1) c.bank_of-bank.ensures c.others-set.ensures _ _ e.result_after e.bounds.0 e.bounds.1 c.counted-before.ensures
 
 pub returns : goal.returns
 returns c =
     let a = c.args in
-    ran_end a.banks.now a.form.now a.payer.now a.spouse.now a.doc.facts a.t.now (a.at + a.doc.size) _ _ _ _ c.loop-to.invariant c.loop-to-test.false
+    ran_end a.banks.now a.form.now a.payer.now a.spouse.now a.facts a.t.now _ _ _ _ _ c.loop-record.invariant c.in-None.ensures.steps.0

@@ -1,24 +1,22 @@
 use native.Mathlib.Omega.{arith}
-use Prim.Native.Nat.{◌+◌, ◌*◌, ◌≤◌}
-use lib.ListN.{length}
-use Rattle.lookup.proofs.Runs.{line_fits, line_key, rest_fits, run_fits, rows_none, rows_hit}
+use Prim.Native.Nat.{◌<◌}
+use Rattle.std.proofs.Common.{rules, tests}
+use Rattle.std.proofs.lemmas.Iterator.Search.{YieldsList-from_take_while}
+use Rattle.std.proofs.lemmas.Iterator.Consumers.{count_from_yields_List}
+use Rattle.paper.specs.Pack.{keyed}
+use Rattle.lines.proofs.Chunks.{lines_come}
+use Rattle.lookup.proofs.Runs.{rows_told, rows_none}
 use Rattle.lookup.proofs.rows_of.Goals as goal
 
-pub returns-then-n-i : goal.returns-then-n-i
-returns-then-n-i c = search rows_none
-
-pub overflow_mul-at : goal.overflow_mul-at
-overflow_mul-at c =
-    let room : c.place_for-i.result * c.args.width + c.args.width ≤ length c.args.block.now = search line_fits in
-    omega (arith, room)
-
-pub run_end-end-requires : goal.run_end-end-requires
-run_end-end-requires c = (search rest_fits, search line_key)
-
-pub slice_bounds-result-end-2 : goal.slice_bounds-result-end-2
-slice_bounds-result-end-2 c =
-    let ends : c.run_end-end.result ≤ length c.args.block.now = search run_fits in
-    omega (arith, ends)
+pub returns-then-width-eq0 : goal.returns-then-width-eq0
+returns-then-width-eq0 c = rows_none c.args.width c.args.key.now c.args.block.now c.if-width-eq0.true
 
 pub returns : goal.returns
-returns c = search rows_hit
+returns c =
+    let some : 0 < c.args.width = omega arith in
+    let found =
+    count_from_yields_List c.take_while.result c.count-n.result c.count-n.ensures.ran
+    (YieldsList-from_take_while _ (keyed c.args.key.now)
+    (lines_come c.args.width c.rest_of-rest.result.now some _ (cc) (cc)) c.take_while.ensures.closure c.take_while.ensures.done (λ x b q k. search (rules, tests))) in
+    let told = rows_told c.args.width c.args.key.now c.args.block.now some in
+    search rules

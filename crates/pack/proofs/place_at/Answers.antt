@@ -1,5 +1,0 @@
-use Rattle.pack.proofs.Laws.{place_told}
-use Rattle.pack.proofs.place_at.Goals as goal
-
-pub returns : goal.returns
-returns c = search place_told
