@@ -1,9 +1,10 @@
 // The rules of an authentication: which of them a record breaks.
 #![tactic(auto)]
 
-ghost use Rattle.std.specs.Prelude.{◌≡◌, not, ◌&&◌, cond, [], ◌∷◌, ℕ, ◌/◌, ◌%◌, eqb, length};
+ghost use Rattle.std.specs.Prelude.{◌≡◌, not, ◌&&◌, cond, [], ◌∷◌, ℕ, ◌/◌, ◌%◌, eqb, length, map};
 ghost use Rattle.paper.specs.Bytes.{same, blank, present};
 ghost use Rattle.paper.specs.Conditions.{not_date, not_digits, not_pin, income_in, wrong_auth, typed, spouse_only, self_only, auth_holds, auth_rules};
+ghost use Rattle.words.specs.Tables.{rule_text};
 ghost use Rattle.words.specs.Sets.{bit_on, bits_on, bits_by};
 ghost use Rattle.auth.specs.Asked.{asked_of, field_holds};
 
@@ -210,19 +211,57 @@ pub fn broken(
     of_head(form, own, whole, before, set)
 }
 
-// The rules in their order, each its field and its code.
-static RULES: [u32; 43] = [
-    0_0030, 0_0044, 0_0045, 3_0004, 8_0010, 10_0010, 10_0670, 10_0681, 20_0010, 20_0670, 20_0679,
-    20_0681, 35_0010, 35_0670, 35_0681, 35_0697, 40_0010, 40_0671, 40_0682, 50_0010, 50_0671,
-    50_0680, 50_0682, 65_0010, 65_0671, 65_0682, 70_0010, 70_0670, 70_0671, 70_0681, 70_0682,
-    70_0697, 75_0326, 75_0670, 75_0671, 75_0681, 75_0682, 75_0697, 80_0010, 80_0670, 80_0671,
-    80_0681, 80_0682,
+// The rules in their order, each by the digits of its field and of its code.
+static RULES: [[u8; 8]; 43] = [
+    *b"00000030",
+    *b"00000044",
+    *b"00000045",
+    *b"00030004",
+    *b"00080010",
+    *b"00100010",
+    *b"00100670",
+    *b"00100681",
+    *b"00200010",
+    *b"00200670",
+    *b"00200679",
+    *b"00200681",
+    *b"00350010",
+    *b"00350670",
+    *b"00350681",
+    *b"00350697",
+    *b"00400010",
+    *b"00400671",
+    *b"00400682",
+    *b"00500010",
+    *b"00500671",
+    *b"00500680",
+    *b"00500682",
+    *b"00650010",
+    *b"00650671",
+    *b"00650682",
+    *b"00700010",
+    *b"00700670",
+    *b"00700671",
+    *b"00700681",
+    *b"00700682",
+    *b"00700697",
+    *b"00750326",
+    *b"00750670",
+    *b"00750671",
+    *b"00750681",
+    *b"00750682",
+    *b"00750697",
+    *b"00800010",
+    *b"00800670",
+    *b"00800671",
+    *b"00800681",
+    *b"00800682",
 ];
 
-// The rules in the table's order, each its field and its code.
-#[tactic(auto, unfolding(paper::specs::Conditions::auth_rules))]
-pub fn table() -> &'static [u32]
-    ensures { result.now ≡ auth_rules }
+// What is written of each rule, in the table's order.
+#[tactic(auto, unfolding(paper::specs::Conditions::auth_rules, words::specs::Tables::rule_text))]
+pub fn texts() -> &'static [[u8; 8]]
+    ensures { result.now ≡ map rule_text auth_rules }
 {
     &RULES
 }

@@ -1,13 +1,14 @@
 // The rules of the 4868: which of them a form breaks.
 #![tactic(auto)]
 
-ghost use Rattle.std.specs.Prelude.{◌≡◌, not, cond, ◌&&◌, [], ◌∷◌, ◌%◌, ◌≤◌, None, eqb, length};
+ghost use Rattle.std.specs.Prelude.{◌≡◌, not, cond, ◌&&◌, [], ◌∷◌, ◌%◌, ◌≤◌, None, eqb, length, map};
 ghost use Rattle.paper.specs.declared.Layout.TheVariants.{L4868};
 ghost use Rattle.paper.specs.Bytes.{within, empty};
 ghost use Rattle.paper.specs.Fields.{street, city};
 ghost use Rattle.paper.specs.Layouts.{field};
 ghost use Rattle.paper.specs.Pack.{lines_in};
 ghost use Rattle.paper.specs.Conditions.{facts_of, not_digits, form_fillers, addressed, wrong_state, bad_zip, wrong_zip, wrong_foreign, no_spouse, form_rules};
+ghost use Rattle.words.specs.Tables.{rule_text};
 ghost use Rattle.words.specs.Sets.{bit_on, bits_on, bits_by};
 ghost use Rattle.words.specs.Past.{number_if, identity_of, no_identity};
 ghost use Rattle.form.specs.Breaks.{breaks, is_at_most};
@@ -315,18 +316,52 @@ pub fn broken(
     Reading { set, identity }
 }
 
-// The rules in their order, each its field and its code.
-static RULES: [u32; 38] = [
-    0_0001, 0_0044, 0_0045, 0_0310, 3_0004, 5_0003, 7_0031, 7_0060, 8_0032, 8_0061, 8_0062, 8_0064,
-    10_0315, 20_0316, 30_0020, 30_0312, 32_0007, 34_0007, 36_0023, 40_0007, 50_0023, 60_0022,
-    70_0016, 80_0010, 80_0306, 90_0010, 100_0010, 100_0071, 100_0314, 112_0010, 114_0010, 120_0010,
-    130_0010, 140_0010, 170_0010, 180_0010, 200_0010, 210_0010,
+// The rules in their order, each by the digits of its field and of its code.
+static RULES: [[u8; 8]; 38] = [
+    *b"00000001",
+    *b"00000044",
+    *b"00000045",
+    *b"00000310",
+    *b"00030004",
+    *b"00050003",
+    *b"00070031",
+    *b"00070060",
+    *b"00080032",
+    *b"00080061",
+    *b"00080062",
+    *b"00080064",
+    *b"00100315",
+    *b"00200316",
+    *b"00300020",
+    *b"00300312",
+    *b"00320007",
+    *b"00340007",
+    *b"00360023",
+    *b"00400007",
+    *b"00500023",
+    *b"00600022",
+    *b"00700016",
+    *b"00800010",
+    *b"00800306",
+    *b"00900010",
+    *b"01000010",
+    *b"01000071",
+    *b"01000314",
+    *b"01120010",
+    *b"01140010",
+    *b"01200010",
+    *b"01300010",
+    *b"01400010",
+    *b"01700010",
+    *b"01800010",
+    *b"02000010",
+    *b"02100010",
 ];
 
-// The rules in the table's order, each its field and its code.
-#[tactic(auto, unfolding(paper::specs::Conditions::form_rules))]
-pub fn table() -> &'static [u32]
-    ensures { result.now ≡ form_rules }
+// What is written of each rule, in the table's order.
+#[tactic(auto, unfolding(paper::specs::Conditions::form_rules, words::specs::Tables::rule_text))]
+pub fn texts() -> &'static [[u8; 8]]
+    ensures { result.now ≡ map rule_text form_rules }
 {
     &RULES
 }

@@ -1,10 +1,11 @@
 // The rules of a payment: which of them a record breaks.
 #![tactic(auto)]
 
-ghost use Rattle.std.specs.Prelude.{◌≡◌, cond, ◌&&◌, [], ◌∷◌, eqb, length};
+ghost use Rattle.std.specs.Prelude.{◌≡◌, cond, ◌&&◌, [], ◌∷◌, eqb, length, map};
 ghost use Rattle.paper.specs.declared.Layout.TheVariants.{LPayment};
 ghost use Rattle.paper.specs.Layouts.{field};
 ghost use Rattle.paper.specs.Conditions.{wrong_pay_date, foreign, runs, wrong_payment, other_spouse, wrong_bank, tax_type, payment_rules};
+ghost use Rattle.words.specs.Tables.{rule_text};
 ghost use Rattle.words.specs.Sets.{bits_on, bits_by};
 ghost use Rattle.payment.specs.Breaks.{breaks};
 
@@ -111,16 +112,28 @@ pub fn broken(form: &[u8], own: &[u8], bank: &[u8], before: usize) -> u64
     of_payer(form, own, before, set)
 }
 
-// The rules in their order, each its field and its code.
-static RULES: [u32; 14] = [
-    0_0044, 0_0045, 3_0004, 10_0010, 10_0395, 20_0010, 20_0395, 30_0396, 40_0396, 50_0396, 60_0010,
-    70_0010, 80_0397, 90_0010,
+// The rules in their order, each by the digits of its field and of its code.
+static RULES: [[u8; 8]; 14] = [
+    *b"00000044",
+    *b"00000045",
+    *b"00030004",
+    *b"00100010",
+    *b"00100395",
+    *b"00200010",
+    *b"00200395",
+    *b"00300396",
+    *b"00400396",
+    *b"00500396",
+    *b"00600010",
+    *b"00700010",
+    *b"00800397",
+    *b"00900010",
 ];
 
-// The rules in the table's order, each its field and its code.
-#[tactic(auto, unfolding(paper::specs::Conditions::payment_rules))]
-pub fn table() -> &'static [u32]
-    ensures { result.now ≡ payment_rules }
+// What is written of each rule, in the table's order.
+#[tactic(auto, unfolding(paper::specs::Conditions::payment_rules, words::specs::Tables::rule_text))]
+pub fn texts() -> &'static [[u8; 8]]
+    ensures { result.now ≡ map rule_text payment_rules }
 {
     &RULES
 }

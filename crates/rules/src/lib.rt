@@ -1,23 +1,28 @@
 // What a record after a document's first breaks: a set, with a bit for a rule in the order of its kind's table, the first rule the lowest
-// bit; and the rules of a kind, in its table's order.
+// bit; and what is written of a kind's rules, in that order.
 #![tactic(auto)]
 
-ghost use Rattle.std.specs.Prelude.{◌≡◌};
+ghost use Rattle.std.specs.Prelude.{◌≡◌, map};
 ghost use Rattle.paper.specs.Conditions.{rules_of};
+ghost use Rattle.words.specs.Tables.{rule_text};
 ghost use Rattle.rules.specs.Sets.{others_of};
 
 use paper::{Facts, Kind};
 
-// The rules of a kind in its table's order, each its field and its code.
-pub fn table(kind: Kind) -> &'static [u32]
-    ensures { result.now ≡ rules_of kind }
+// Of an FRM of an unknown form: its one rule.
+static UNKNOWN: [[u8; 8]; 1] = [*b"00000044"];
+
+// What is written of each rule of a kind, its field and its code, in its table's order.
+#[tactic(auto, unfolding(words::specs::Tables::rule_text))]
+pub fn texts(kind: Kind) -> &'static [[u8; 8]]
+    ensures { result.now ≡ map rule_text (rules_of kind) }
 {
     match kind {
-        Kind::Form => form::table(),
-        Kind::Payment => payment::table(),
-        Kind::Auth => auth::table(),
-        Kind::Summary => summary::table(),
-        Kind::Unknown => &[0_0044],
+        Kind::Form => form::texts(),
+        Kind::Payment => payment::texts(),
+        Kind::Auth => auth::texts(),
+        Kind::Summary => summary::texts(),
+        Kind::Unknown => &UNKNOWN,
         Kind::TranA | Kind::TranB | Kind::Recap | Kind::Stray => &[],
     }
 }

@@ -4,6 +4,7 @@ use mathlib.Core.Bool.{Bool, true, false, cond}
 use mathlib.Core.List.{List, [], ◌∷◌, ◌++◌, map, append-nil, append_assoc}
 use Prim.Native.Nat.{ℕ, zero, suc, ◌+◌, ◌-◌, ◌*◌, ◌/◌, ◌%◌, ◌<◌, ◌≤◌, min}
 use native.Mathlib.Omega.{arith}
+use Rattle.std.proofs.lemmas.List.{get_or-map, length-map}
 use borrow.Author.Tests.{le-leb, eq-eqb, eqb-true}
 use lib.Dec.{eqb, leb}
 use lib.ListN.{length, get_or, drop, take, length-append, length-take, drop_of_length-le}
@@ -98,7 +99,11 @@ module _ (ssn t : Bytes) (b : Broken) (end : ℕ) where
     pub lays : laid out (120 * n) (errors_from ssn n (take (end - n) (left_from left i)))
         ≡ laid out₀ (120 * first) (errors_from ssn first (take (end - first) (left_from b.set 0)))
 
-  module _ (out₀ out : Bytes) (first n left i : ℕ) (g : Going out₀ out first n left i) where
+  -- the texts of its kind's rules are as many
+  along : (texts : List Bytes) → texts ≡ map rule_text table → length texts ≡ length table
+  along texts e = ap length e ∙ length-map table rule_text
+
+  module _ (texts : List Bytes) (et : texts ≡ map rule_text table) (out₀ out : Bytes) (first n left i : ℕ) (g : Going out₀ out first n left i) where
     abbrev rest : List Finding
     rest = left_from (left / 2) (i + 1)
 
@@ -111,7 +116,7 @@ module _ (ssn t : Bytes) (b : Broken) (end : ℕ) where
         by false = refl
 
     -- a rule that the set does not have, or that there is no room for
-    pub passed : i < length table → (left % 2 ≡ 1 → end ≤ n) → Going out₀ out first n (left / 2) (i + 1)
+    pub passed : i < length texts → (left % 2 ≡ 1 → end ≤ n) → Going out₀ out first n (left / 2) (i + 1)
     passed h not_both = record {
       within = g.within;
       same = g.same;
@@ -124,19 +129,22 @@ module _ (ssn t : Bytes) (b : Broken) (end : ℕ) where
         by false e = refl
 
         none : take (end - n) (left_from left i) ≡ take (end - n) rest
-        none = ap (take (end - n)) (here h) ∙ by (eqb (left % 2) 1) refl
+        none = ap (take (end - n)) (here (omega (arith, along texts et))) ∙ by (eqb (left % 2) 1) refl
 
     -- a rule that the set has, written
-    pub one_more : (model text out' : Bytes) → i < length table → left % 2 ≡ 1 → n < end → 120 * end ≤ length out₀
-        → model ≡ error_model ssn (field L4868 0 r) (type_at b.kind r) (bytes "00001") (occurrence_at b.kind r) → text ≡ rule_text (get_or table i 0)
-        → out' ≡ placed out (120 * n) (error_by model n text) → Going out₀ out' first (n + 1) (left / 2) (i + 1)
+    pub one_more : (model d out' : Bytes) → i < length texts → left % 2 ≡ 1 → n < end → 120 * end ≤ length out₀
+        → model ≡ error_model ssn (field L4868 0 r) (type_at b.kind r) (bytes "00001") (occurrence_at b.kind r)
+        → out' ≡ placed out (120 * n) (error_by model n (get_or texts i d)) → Going out₀ out' first (n + 1) (left / 2) (i + 1)
     unfolding placed error_of rule_text
-    one_more model text out' h odd l room em et eo =
+    one_more model d out' h odd l room em eo =
+        let h' : i < length table = omega (arith, along texts et) in
         let rule = get_or table i 0 in
         let x : Finding = mark b.kind r rule in
+        let text = get_or texts i d in
+        let here_text : text ≡ rule_text rule = ap (λ (s : List Bytes). get_or s i d) et ∙ get_or-map rule_text table i 0 d h' in
         let said : error_by model n text ≡ error_of ssn n x =
-        ap (λ (m : Bytes). error_by m n text) em ∙ error_said ssn n (field L4868 0 r) (type_at b.kind r) (bytes "00001") (occurrence_at b.kind r) rule text et in
-        let on : left_from left i ≡ x ∷ rest = here h ∙ ap (λ (q : Bool). cond q (x ∷ rest) rest) (eq-eqb (left % 2) 1 odd) in
+        ap (λ (m : Bytes). error_by m n text) em ∙ error_said ssn n (field L4868 0 r) (type_at b.kind r) (bytes "00001") (occurrence_at b.kind r) rule text here_text in
+        let on : left_from left i ≡ x ∷ rest = here h' ∙ ap (λ (q : Bool). cond q (x ∷ rest) rest) (eq-eqb (left % 2) 1 odd) in
         let s : end - n ≡ suc (end - (n + 1)) = omega arith in
         let one : take (end - n) (x ∷ []) ≡ x ∷ [] = ap (λ (m : ℕ). take m (x ∷ [])) s ∙ only (end - (n + 1)) x in
         let c : n + 1 ≡ n + length (take (end - n) (x ∷ [])) = sym (ap (λ (l : List Finding). n + length l) one) in
@@ -156,10 +164,10 @@ module _ (ssn t : Bytes) (b : Broken) (end : ℕ) where
         only (suc m) y = refl
 
     -- the end of the table
-    pub all_done : length table ≤ i → (n ≡ first + length (take (end - first) (found_in t b))) × (out ≡ laid out₀ (120 * first) (errors_from ssn first (take (end - first) (found_in t b))))
+    pub all_done : length texts ≤ i → (n ≡ first + length (take (end - first) (found_in t b))) × (out ≡ laid out₀ (120 * first) (errors_from ssn first (take (end - first) (found_in t b))))
     unfolding found_in
     all_done h =
-        let none : take (end - n) (left_from left i) ≡ [] = take_none (end - n) _ (ap (λ (l : List ℕ). map (mark b.kind r) (chosen left l)) (ended table i h)) in
+        let none : take (end - n) (left_from left i) ≡ [] = take_none (end - n) _ (ap (λ (l : List ℕ). map (mark b.kind r) (chosen left l)) (ended table i (omega (arith, along texts et)))) in
         let z : length (take (end - n) (left_from left i)) ≡ 0 = ap length none in
         (omega (arith, g.counts), none_laid ssn n (take (end - n) (left_from left i)) out _ none g.lays)
 

@@ -39,10 +39,9 @@ fn put_broken(
     let model = model_of(ssn, broken.kind, recordset::from(t, broken.place));
     let mut n = first;
     let mut left = broken.set;
-    for rule in rules::table(broken.kind) {
+    for text in rules::texts(broken.kind) {
         if left % 2 == 1 && n < end {
-            let text = words::text_of(*rule);
-            record::put_error(out, 120 * n, &model, n as u32, text);
+            record::put_error(out, 120 * n, &model, n as u32, *text);
             n += 1;
         }
         left /= 2;

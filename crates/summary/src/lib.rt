@@ -1,10 +1,11 @@
 // The rules of a summary: which of them a record breaks.
 #![tactic(auto)]
 
-ghost use Rattle.std.specs.Prelude.{◌≡◌, ◌&&◌, cond, [], ◌∷◌, ℕ, ◌/◌, ◌%◌, eqb, length};
+ghost use Rattle.std.specs.Prelude.{◌≡◌, ◌&&◌, cond, [], ◌∷◌, ℕ, ◌/◌, ◌%◌, eqb, length, map};
 ghost use Rattle.paper.specs.declared.Layout.TheVariants.{LSummary};
 ghost use Rattle.paper.specs.Bytes.{present};
 ghost use Rattle.paper.specs.Layouts.{field};
+ghost use Rattle.words.specs.Tables.{rule_text};
 ghost use Rattle.words.specs.Sets.{bits_on, bits_by};
 ghost use Rattle.paper.specs.Conditions.{summary_fillers, wrong_year, not_time, summary_holds, summary_rules};
 
@@ -135,19 +136,58 @@ pub fn broken(form: &[u8], own: &[u8]) -> u64
     of_head(form, own, set)
 }
 
-// The rules in their order, each its field and its code.
-static RULES: [u32; 44] = [
-    0_0045, 2_0004, 10_0027, 20_0010, 20_0027, 40_0010, 50_0014, 55_0014, 60_0014, 63_0014,
-    70_0014, 75_0014, 80_0014, 90_0010, 100_0014, 110_0014, 120_0014, 130_0014, 133_0014, 135_0014,
-    140_0014, 150_0014, 170_0014, 180_0014, 185_0014, 188_0014, 189_0014, 190_0014, 195_0014,
-    200_0014, 210_0014, 215_0014, 217_0014, 219_0014, 220_0014, 250_0014, 260_0010, 260_0490,
-    260_0491, 270_0010, 270_0491, 280_0010, 280_0491, 290_0014,
+// The rules in their order, each by the digits of its field and of its code.
+static RULES: [[u8; 8]; 44] = [
+    *b"00000045",
+    *b"00020004",
+    *b"00100027",
+    *b"00200010",
+    *b"00200027",
+    *b"00400010",
+    *b"00500014",
+    *b"00550014",
+    *b"00600014",
+    *b"00630014",
+    *b"00700014",
+    *b"00750014",
+    *b"00800014",
+    *b"00900010",
+    *b"01000014",
+    *b"01100014",
+    *b"01200014",
+    *b"01300014",
+    *b"01330014",
+    *b"01350014",
+    *b"01400014",
+    *b"01500014",
+    *b"01700014",
+    *b"01800014",
+    *b"01850014",
+    *b"01880014",
+    *b"01890014",
+    *b"01900014",
+    *b"01950014",
+    *b"02000014",
+    *b"02100014",
+    *b"02150014",
+    *b"02170014",
+    *b"02190014",
+    *b"02200014",
+    *b"02500014",
+    *b"02600010",
+    *b"02600490",
+    *b"02600491",
+    *b"02700010",
+    *b"02700491",
+    *b"02800010",
+    *b"02800491",
+    *b"02900014",
 ];
 
-// The rules in the table's order, each its field and its code.
-#[tactic(auto, unfolding(paper::specs::Conditions::summary_rules))]
-pub fn table() -> &'static [u32]
-    ensures { result.now ≡ summary_rules }
+// What is written of each rule, in the table's order.
+#[tactic(auto, unfolding(paper::specs::Conditions::summary_rules, words::specs::Tables::rule_text))]
+pub fn texts() -> &'static [[u8; 8]]
+    ensures { result.now ≡ map rule_text summary_rules }
 {
     &RULES
 }

@@ -7,7 +7,6 @@ ghost use Rattle.paper.specs.Bytes.{bytes, bit, same, before, part, present, all
 ghost use Rattle.paper.specs.Conditions.{control_in, not_x, one_of, wrong_page, wrong_and, late, is_foreign, last_pay_day};
 ghost use Rattle.date.specs.Day.{is_day};
 ghost use Rattle.words.specs.Sets.{bit_on};
-ghost use Rattle.words.specs.Tables.{rule_text};
 
 // 0010: not X or blank.
 #[tactic(auto, unfolding(paper::specs::Conditions::not_x))]
@@ -139,12 +138,4 @@ pub fn and_rule(is_broken: bool, later: u64) -> u64
     ensures { result ≡ bit_on is_broken later }
 {
     later << 1 | u64::from(is_broken)
-}
-
-// What is written of a rule: eight digits, its field and its code.
-#[tactic(auto, unfolding(crate::specs::Tables::rule_text))]
-pub fn text_of(rule: u32) -> [u8; 8]
-    ensures { result ≡ rule_text rule }
-{
-    text::written(u64::from(rule))
 }
