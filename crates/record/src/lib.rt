@@ -36,6 +36,7 @@ fn copy<const N: usize>(r: &mut [u8], at: usize, text: &[u8], from: usize)
 
 // A text of 8 to 16 bytes by its first and its last eight, one of 4 to 7 by its first and its last four, since a copy of a fixed width is one
 // move; any other at once.
+#[inline(always)]
 fn lay_text(r: &mut [u8], at: usize, text: &[u8])
     ensures { r.new ≡ laid r.old at text.now }
 {
@@ -54,6 +55,7 @@ fn lay_text(r: &mut [u8], at: usize, text: &[u8])
     }
 }
 
+#[inline(always)]
 fn lay(r: &mut [u8], l: Layout, number: u32, text: &[u8])
     ensures { r.new ≡ laid r.old (entry l number).start text.now }
 {
