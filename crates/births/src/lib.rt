@@ -54,6 +54,7 @@ fn validity(primary: bool, spouse: bool) -> u8
 pub fn birth_byte(t: &[u8], from: usize, payer: &[u8], spouse: &[u8], pays: usize) -> u8
     ensures { result ≡ birth_byte (first_auth (own_in (drop from t.now))) payer.now spouse.now pays }
 {
+    // Without a payment no authentication is looked for.
     if pays == 0 {
         return b'0';
     }
