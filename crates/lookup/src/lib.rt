@@ -9,7 +9,7 @@ ghost use Rattle.lookup.specs.Find.{count_for, place_for, rest_in, line_in, rows
 
 use text::{is_before, is_lower, key_of, piece};
 
-// Whether a line's key comes before another; keys of nine bytes, which are most, as numbers.
+// Whether a line's key comes before another; keys of nine bytes, which are most, as numbers, since a look-up is a quarter faster so.
 #[tactic(auto, using(crate::proofs::Nines::nine_before))]
 fn key_before(a: &[u8], b: &[u8]) -> bool
     ensures { result ≡ before a.now b.now }
