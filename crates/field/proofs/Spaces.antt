@@ -1,16 +1,16 @@
--- Spaces: at the end of a field, two before another byte, and after an account. Assumes nothing.
+-- Spaces: at the end of a field, two before another byte, after an account and after zeros. Assumes nothing.
 use mathlib.Core.Path.{◌≡◌, refl, sym, ap, ◌∙◌}
-use mathlib.Core.Bool.{Bool, true, false, not, cond, ◌&&◌, ◌||◌, and-true, and-false, or-false, or_assoc}
+use mathlib.Core.Bool.{Bool, true, false, not, cond, ◌&&◌, ◌||◌, and-true, and-false, or-false}
 use mathlib.Core.List.{[], ◌∷◌}
-use Prim.Native.Nat.{ℕ, ◌+◌, ◌-◌, ◌≤◌, ◌<◌}
+use Prim.Native.Nat.{ℕ, ◌+◌}
 use native.Mathlib.Omega.{arith}
 use native.Mathlib.Numerals.{one-add}
-use borrow.Author.Tests.{not-true, not-false, eqb-true}
-use lib.ListN.{length, get_or, take, drop, length-drop}
-use Rattle.paper.specs.Bytes.{Bytes, every, any, is_space, blank, all_zeros}
-use Rattle.paper.specs.Fields.{cons_trim, trim, beside, spaced, is_alnum, account_byte, account}
-use lib.Seq.{take_all}
-use Rattle.paper.proofs.Laws.{next, never, both}
+use borrow.Author.Tests.{eqb-true}
+use Rattle.std.specs.List.{prefix_len}
+use lib.ListN.{length, get_or, take, drop}
+use Rattle.paper.specs.Bytes.{Bytes, every, any, is_space, is_zero, blank, all_zeros}
+use Rattle.paper.specs.Fields.{cons_trim, trim, beside, spaced, is_alnum, account_byte, account, zeros_then_blanks}
+use Rattle.paper.proofs.Laws.{never, both}
 use Rattle.kinds.specs.Kinds.{first_not}
 use Rattle.field.specs.Gap.{gap}
 
@@ -123,45 +123,8 @@ spaced_gap s = λ i. not (is_space (first i)) && not (sym (beside_gap s) i)
     first : get_or s 0 32 ≡ get_or (trim s) 0 32
     first = by (trim s) refl
 
-pub spaced_none : (s : Bytes) → length s ≡ 0 → false ≡ spaced s
-unfolding spaced
-spaced_none [] h = refl
-spaced_none (x ∷ s) h = absurd (omega arith)
-
-pub spaced_some : (s : Bytes) (g : Bool) → (length s ≡ 0 → ⊥) → g ≡ gap s → (not (is_space (get_or s 0 0)) && not g) ≡ spaced s
-spaced_some [] g h e = absurd (h refl)
-spaced_some (x ∷ s) g h e = ap (λ (b : Bool). not (is_space x) && not b) e ∙ spaced_gap (x ∷ s)
-
--- The answers of a loop over three bytes side by side; f says whether they stand before i, r whether they are the three at i
-module _ (s : Bytes) (i : ℕ) (f : Bool) (v : gap s ≡ (f || gap (drop (i - 2) s))) (o : 2 ≤ i) where
-  three : i < length s → gap (drop (i - 2) s) ≡ (is_space (get_or s (i - 2) 0) && is_space (get_or s (i - 1) 0) && not (is_space (get_or s i 0)) || gap (drop (i - 1) s))
-  three h =
-      let j : i - 2 + 1 ≡ i - 1 = omega arith in
-      let k : i - 1 + 1 ≡ i = omega arith in
-      let z : drop i s ≡ get_or s i 0 ∷ drop (i + 1) s = next s i h in
-      let y : drop (i - 1) s ≡ get_or s (i - 1) 0 ∷ drop i s = next s (i - 1) (omega arith) ∙ ap (λ (n : ℕ). get_or s (i - 1) 0 ∷ drop n s) k in
-      let x : drop (i - 2) s ≡ get_or s (i - 2) 0 ∷ drop (i - 1) s = next s (i - 2) (omega arith) ∙ ap (λ (n : ℕ). get_or s (i - 2) 0 ∷ drop n s) j in
-      let w : drop (i - 1) s ≡ get_or s (i - 1) 0 ∷ get_or s i 0 ∷ drop (i + 1) s = y ∙ ap (λ (l : Bytes). get_or s (i - 1) 0 ∷ l) z in
-      ap gap (x ∙ ap (λ (l : Bytes). get_or s (i - 2) 0 ∷ l) w)
-      ∙ ap (λ (l : Bytes). is_space (get_or s (i - 2) 0) && is_space (get_or s (i - 1) 0) && not (is_space (get_or s i 0)) || gap l) (sym w)
-
-  pub gap_again : (r : Bool) → i < length s → r ≡ (is_space (get_or s (i - 2) 0) && is_space (get_or s (i - 1) 0) && not (is_space (get_or s i 0)))
-      → gap s ≡ ((f || r) || gap (drop (i + 1 - 2) s))
-  gap_again r h e =
-      let k : i - 1 ≡ i + 1 - 2 = omega arith in
-      v ∙ ap (λ (b : Bool). f || b) (three h ∙ ap (λ (b : Bool). b || gap (drop (i - 1) s)) (sym e)) ∙ sym (or_assoc f r (gap (drop (i - 1) s)))
-      ∙ ap (λ (n : ℕ). (f || r) || gap (drop n s)) k
-
-  pub gap_done : length s ≤ i → f ≡ gap s
-  gap_done h = sym (v ∙ ap (λ (b : Bool). f || b) (go (drop (i - 2) s) refl) ∙ or-false f)
-    where
-      go : (l : Bytes) → drop (i - 2) s ≡ l → gap l ≡ false
-      go [] e = refl
-      go (x ∷ []) e = refl
-      go (x ∷ y ∷ []) e = refl
-      go (x ∷ y ∷ z ∷ l) e = absurd (omega (arith, length-drop (i - 2) s, ap length e))
-
-pub ruleset gap_loop = (gap_again, gap_done)
+pub spaced_is : (s : Bytes) → spaced s ≡ (not (is_space (get_or s 0 32)) && not (gap s))
+spaced_is s = sym (spaced_gap s)
 
 -- THE BYTES BEFORE THE FIRST THAT DOES NOT PASS, of a test that a space does not pass
 
@@ -210,21 +173,44 @@ module _ (p : ℕ → Bool) (no : p 32 ≡ false) where
 
 -- AN ACCOUNT: n bytes that can stand in one, and r says whether only blanks stand after them
 
-module _ (s : Bytes) (n : ℕ) (r : Bool) (e : n ≡ first_not account_byte s) (f : r ≡ blank (take (length s - n) (drop n s))) where
+module _ (s : Bytes) (n : ℕ) (r : Bool) (e : n ≡ first_not account_byte s) (f : r ≡ blank (drop n s)) where
   rest : r ≡ blank (drop (first_not account_byte s) s)
-  rest = f ∙ ap blank (take_all (length s - n) (drop n s) (omega (arith, length-drop n s))) ∙ ap (λ (k : ℕ). blank (drop k s)) e
+  rest = f ∙ ap (λ (k : ℕ). blank (drop k s)) e
 
-  pub account_no : not r ≡ true → false ≡ account s
+  pub account_no : r ≡ false → false ≡ account s
   unfolding account
   account_no h =
-      let w : every account_byte (trim s) ≡ false = front_fails account_byte refl s (sym rest ∙ not-true r h) in
+      let w : every account_byte (trim s) ≡ false = front_fails account_byte refl s (sym rest ∙ h) in
       sym (ap (λ (b : Bool). any is_alnum (trim s) && b && not (all_zeros (trim s))) w ∙ ap (λ (b : Bool). b && not (all_zeros (trim s))) (and-false (any is_alnum (trim s))))
 
-  pub account_yes : not r ≡ false → (a z : Bool) → a ≡ any is_alnum (take (n - 0) s) → z ≡ all_zeros (take (n - 0) s) → (a && not z) ≡ account s
+  pub account_yes : r ≡ true → (any is_alnum (take n s) && not (all_zeros (take n s))) ≡ account s
   unfolding account
-  account_yes h a z ea ez =
-      let k : n - 0 ≡ first_not account_byte s = omega (arith, e) in
-      let t : take (n - 0) s ≡ trim s = ap (λ (k : ℕ). take k s) k ∙ sym (front_trim account_byte refl s (sym rest ∙ not-false r h)) in
-      let w : every account_byte (trim s) ≡ true = ap (every account_byte) (front_trim account_byte refl s (sym rest ∙ not-false r h)) ∙ front_passes account_byte refl s in
-      (λ i. (ea ∙ ap (any is_alnum) t) i && not ((ez ∙ ap all_zeros t) i))
+  account_yes h =
+      let t : take n s ≡ trim s = ap (λ (k : ℕ). take k s) e ∙ sym (front_trim account_byte refl s (sym rest ∙ h)) in
+      let w : every account_byte (trim s) ≡ true = ap (every account_byte) (front_trim account_byte refl s (sym rest ∙ h)) ∙ front_passes account_byte refl s in
+      (λ i. any is_alnum (t i) && not (all_zeros (t i)))
       ∙ ap (λ (b : Bool). b && not (all_zeros (trim s))) (sym (and-true (any is_alnum (trim s))) ∙ ap (λ (b : Bool). any is_alnum (trim s) && b) (sym w))
+
+-- both
+pub account_is : (s : Bytes)
+    → account s ≡ (blank (drop (first_not account_byte s) s) && any is_alnum (take (first_not account_byte s) s) && not (all_zeros (take (first_not account_byte s) s)))
+account_is s = go (blank (drop n s)) refl
+  where
+    n : ℕ
+    n = first_not account_byte s
+
+    go : (r : Bool) → blank (drop n s) ≡ r → account s ≡ (r && any is_alnum (take n s) && not (all_zeros (take n s)))
+    go true f = sym (account_yes s n true refl (sym f) refl)
+    go false f = sym (account_no s n false refl (sym f) refl)
+
+-- AFTER ZEROS
+
+-- only blanks stand after the zeros at the front
+pub after_zeros : (s : Bytes) → blank (drop (prefix_len is_zero s) s) ≡ zeros_then_blanks s
+after_zeros [] = refl
+after_zeros (x ∷ s) = by (is_zero x) (after_zeros s)
+  where
+    by : (b : Bool) → blank (drop (prefix_len is_zero s) s) ≡ zeros_then_blanks s
+        → blank (drop (cond b (1 + prefix_len is_zero s) 0) (x ∷ s)) ≡ cond b (zeros_then_blanks s) (blank (x ∷ s))
+    by true h = simp (one-add) h
+    by false h = refl
