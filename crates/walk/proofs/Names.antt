@@ -1,19 +1,20 @@
 -- The names of records as numbers. Assumes nothing.
 use Prim.{tt}
-use Prim.Native.Nat.{ℕ, suc, ◌+◌, ◌*◌, ◌%◌, ◌^◌, ◌≤◌, ◌<◌}
+use Prim.Native.Nat.{ℕ, suc, ◌+◌, ◌-◌, ◌*◌, ◌%◌, ◌^◌, ◌≤◌, ◌<◌}
+use mathlib.Core.List.{[], ◌∷◌}
 use mathlib.Core.Path.{◌≡◌, refl, sym, ap, ◌∙◌}
 use mathlib.Core.Bool.{Bool, true, false, cond}
-use native.Mathlib.Nat.{add_comm}
+use native.Mathlib.Nat.{add_comm, add-sub_cancel_left}
 use native.Mathlib.Omega.{arith}
 use borrow.Author.Tests.{eqb-true, eqb-false, ne_eqb}
 use lib.Arith.{digits_mod}
 use lib.Dec.{eqb, lit≤}
-use lib.ListN.{length, take, drop, length-take}
+use lib.ListN.{length, get_or, take, drop, length-take}
 use lib.Seq.{take-take}
 use Rattle.paper.specs.declared.Kind.{Kind}
 use Rattle.paper.specs.declared.Kind.TheVariants.{TranA, TranB, Form, Unknown, Payment, Auth, Summary, Recap, Stray}
-use Rattle.paper.specs.Bytes.{Bytes, bytes, every, same, part}
-use Rattle.paper.specs.Walk.{named_form, named}
+use Rattle.paper.specs.Bytes.{Bytes, bytes, every, same, part, number}
+use Rattle.paper.specs.Walk.{count_of, named_form, named}
 use Rattle.paper.proofs.Laws.{both, same_eq}
 use Rattle.text.specs.Words.{is_byte, little}
 use Rattle.text.proofs.Words.{little_split, little_lt, every_split, same_little}
@@ -35,6 +36,19 @@ module _ (k : ℕ) (r : Bytes) (at w : ℕ) (few : k ≤ 8) (e : w ≡ little (p
       let less : little s < 256 ^ k = little_lt k s first_bytes (omega (arith, length-take k (drop at r))) in
       ap (λ (x : ℕ). x % 256 ^ k) (e ∙ little_split k (part at 8 r) ∙ ap (λ (l : Bytes). little l + q * 256 ^ k) first ∙ add_comm (little s) (q * 256 ^ k))
       ∙ digits_mod q less
+
+-- the first six
+pub six_value : (r : Bytes) (at w : ℕ) → w ≡ little (part at 8 r) → every is_byte (part at 8 r) ≡ true → w % 281474976710656 ≡ little (part at 6 r)
+six_value r at w e h = first_told 6 r at w (omega arith) e h
+
+pub six_bytes : (r : Bytes) (at : ℕ) → every is_byte (part at 8 r) ≡ true → every is_byte (part at 6 r) ≡ true
+six_bytes r at h = first_bytes 6 r at (little (part at 8 r)) (omega arith) refl h
+
+-- eight bytes, as the code has them
+pub eight_bytes : (r : Bytes) (at : ℕ) → part 0 8 (take (at + 8 - at) (drop at r)) ≡ part at 8 r
+eight_bytes r at = ap (λ (n : ℕ). take 8 (take n (drop at r))) (add-sub_cancel_left at 8) ∙ take-take 8 8 (drop at r) (omega arith)
+
+pub ruleset six = (six_value, six_bytes, eight_bytes)
 
 -- bytes, fewer than the name's where the record ends before, are the name exactly if the numbers are the same: its last byte is not 0
 pub is_name : (k : ℕ) (s b : Bytes) (n : ℕ) → n ≡ little s → every is_byte s ≡ true → length s ≤ suc k
@@ -92,6 +106,15 @@ named_by r n e h =
       by_number r 8 n e h (bytes "TRANA ") refl refl (lit≤ tt),
       by_number r 8 n e h (bytes "TRANB ") refl refl (lit≤ tt),
     )
+
+-- the four digits of a count
+pub count_told : (s : Bytes) (n : ℕ) → 4 ≤ length s → n ≡ (get_or s 0 0 - 48) * 1000 + (get_or s 1 0 - 48) * 100 + (get_or s 2 0 - 48) * 10 + (get_or s 3 0 - 48) → n ≡ count_of s
+unfolding count_of number
+count_told (x ∷ y ∷ z ∷ u ∷ s) n l e = omega (arith, e)
+count_told [] n l e = absurd (omega (arith, l))
+count_told (x ∷ []) n l e = absurd (omega (arith, l))
+count_told (x ∷ y ∷ []) n l e = absurd (omega (arith, l))
+count_told (x ∷ y ∷ z ∷ []) n l e = absurd (omega (arith, l))
 
 -- "****"
 pub stars_told : (s : Bytes) (w : ℕ) → w ≡ little (part 4 8 s) → every is_byte (part 4 8 s) ≡ true → same (part 4 4 s) (bytes "****") ≡ eqb (w % 4294967296) 707406378
