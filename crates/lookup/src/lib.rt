@@ -70,7 +70,7 @@ fn is_keyed(l: &[u8], key: &[u8]) -> bool
     l.starts_with(key)
 }
 
-// The line with this key, or no byte.
+// The line with this key, or no byte; no Option, since this contract is public and stays as it is.
 pub fn line_of<'a>(block: &'a [u8], width: usize, key: &[u8]) -> &'a [u8]
     ensures { result.now ≡ line_in width key.now block.now }
 {
