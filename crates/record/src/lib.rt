@@ -24,42 +24,11 @@ pub struct Key<'a> {
     pub births: u8,
 }
 
-// N bytes of a text, from a place of it on.
-#[tactic(auto, using(crate::proofs::Laws::mid_laid))]
-fn copy<const N: usize>(r: &mut [u8], at: usize, text: &[u8], from: usize)
-    requires room { at + N ≤ length r.old }
-    requires there { from + N ≤ length text.now }
-    ensures { r.new ≡ laid r.old at (part from N text.now) }
-{
-    r[at..at + N].copy_from_slice(&text[from..from + N])
-}
-
-// A text of 8 to 16 bytes by its first and its last eight, one of 4 to 7 by its first and its last four, since a copy of a fixed width is one
-// move; any other at once.
-#[inline(always)]
-fn lay_text(r: &mut [u8], at: usize, text: &[u8])
-    ensures { r.new ≡ laid r.old at text.now }
-{
-    let n = text.len();
-    let fits = at.saturating_add(n) <= r.len();
-    match n {
-        4..=7 if fits => {
-            copy::<4>(r, at, text, 0);
-            copy::<4>(r, at + (n - 4), text, n - 4)
-        }
-        8..=16 if fits => {
-            copy::<8>(r, at, text, 0);
-            copy::<8>(r, at + (n - 8), text, n - 8)
-        }
-        _ => text::lay(r, at, text),
-    }
-}
-
 #[inline(always)]
 fn lay(r: &mut [u8], l: Layout, number: u32, text: &[u8])
     ensures { r.new ≡ laid r.old (entry l number).start text.now }
 {
-    lay_text(r, layout::start_of(l, number), text)
+    text::lay(r, layout::start_of(l, number), text)
 }
 
 // 120 blanks, the byte count, and the record's id.
