@@ -9,7 +9,8 @@ use layout::field_of;
 use paper::Kind;
 use paper::Layout::LAuth;
 
-// The first authentication among the records that go on with a document, which start at a place; or no byte.
+// The first authentication among the records that go on with a document, which start at a place; or no byte, as the paper's
+// `first_auth` has it.
 fn first_auth(t: &[u8], from: usize) -> &[u8]
     ensures { result.now ≡ first_auth (own_in (drop from t.now)) }
 {
