@@ -9,7 +9,8 @@ use layout::field_of;
 use paper::Kind;
 use paper::Layout::LAuth;
 
-// The first authentication among the records that go on with a document, which start at a place; or no byte.
+// The first authentication among the records that go on with a document, which start at a place; or no byte, as the paper's
+// `first_auth` has it.
 fn first_auth(t: &[u8], from: usize) -> &[u8]
     ensures { result.now ≡ first_auth (own_in (drop from t.now)) }
 {
@@ -54,6 +55,7 @@ fn validity(primary: bool, spouse: bool) -> u8
 pub fn birth_byte(t: &[u8], from: usize, payer: &[u8], spouse: &[u8], pays: usize) -> u8
     ensures { result ≡ birth_byte (first_auth (own_in (drop from t.now))) payer.now spouse.now pays }
 {
+    // Without a payment no authentication is looked for.
     if pays == 0 {
         return b'0';
     }

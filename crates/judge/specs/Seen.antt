@@ -13,6 +13,7 @@ pub record Trail : Type 0 where
   pub dcn : Option ℕ
   pub accepted : List ℕ
 
+-- tied to the paper by `leaves` and `starts_empty` of judge/Seen
 abbrev pub trail : {N : ℕ} → Past N → Trail
 trail p = record { dsn = p.dsn; dcn = p.dcn; accepted = p.accepted.items }
 

@@ -125,7 +125,7 @@ fn pass<const N: usize>(identity: Identity, letter: Letter, past: &mut Past<N>)
 
 // JUDGING
 
-// The bank line of a payment, or no byte.
+// The bank line of a payment, or no byte, which is what the rules read where there is no line.
 #[tactic(auto, unfolding(crate::specs::Judged::bank_for))]
 fn bank_of<'a>(banks: &'a [u8], kind: Kind, own: &[u8]) -> &'a [u8]
     ensures { result.now ≡ bank_for banks.now kind own.now }

@@ -38,6 +38,7 @@ pub fn table() -> &'static [u8; 256]
 }
 
 // A byte is of a kind in the set.
+#[tactic(auto, unfolding(crate::specs::Kinds::is_in))]
 pub fn is_in(kinds: &[u8; 256], set: u8, x: u8) -> bool
     ensures { result ≡ is_in kinds.now set x }
 {
@@ -58,7 +59,7 @@ pub fn some_of(kinds: &[u8; 256], set: u8, s: &[u8]) -> bool
     s.iter().any(|x| is_in(kinds, set, *x))
 }
 
-// The place of the first byte that is not; the length for none.
+// The place of the first byte that is not; the length for none, since callers take what stands before it.
 pub fn first_not_of(kinds: &[u8; 256], set: u8, s: &[u8]) -> usize
     ensures value { result ≡ first_not (is_in kinds.now set) s.now }
     ensures upper_bound { result ≤ length s.now }

@@ -38,7 +38,7 @@ fn state_line(l: &[u8]) -> bool
     letters(piece(l, 0, 2)) && digits(piece(l, 2, 6)) && !is_before(piece(l, 5, 3), piece(l, 2, 3))
 }
 
-// The first `rise` bytes of each line come before those of the next; compared as numbers.
+// The first `rise` bytes of each line come before those of the next; compared as numbers, since a pack is checked a third faster so.
 fn ascend(b: &[u8], width: usize, rise: usize) -> bool
     requires { (0 < width) × (rise ≤ 16) }
     ensures { result ≡ rises rise (lines_in width b.now) }

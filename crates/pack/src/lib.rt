@@ -10,10 +10,11 @@ use lines::good_body;
 use paper::Reference;
 
 // The lines of the block of this kind that starts the slice, and what follows the block. Its head says how many bytes its lines have, and
-// its kind.
+// its kind, as numbers.
 #[tactic(auto, unfolding(paper::specs::Pack::good_block, paper::specs::Pack::body, paper::specs::Pack::after, paper::specs::Pack::size_said, paper::specs::Pack::kind_said))]
 fn block(kind: u8, s: &[u8]) -> Option<(&[u8], &[u8])>
-    ensures { MatchOption result (good_block kind s.now ≡ false) (λ b. (good_block kind s.now ≡ true) × (b.0.now ≡ body s.now) × (b.1.now ≡ after s.now)) }
+    ensures { MatchOption result (good_block kind s.now ≡ false)
+        (λ b. (good_block kind s.now ≡ true) × (b.0.now ≡ body s.now) × (b.1.now ≡ after s.now)) }
 {
     let (&[a, b, c, d, e, f], rest) = s.split_first_chunk::<6>()?;
     if u16::from_le_bytes([e, f]) != u16::from(kind) {

@@ -24,6 +24,7 @@ pub struct Key<'a> {
     pub births: u8,
 }
 
+#[inline(always)]
 fn lay(r: &mut [u8], l: Layout, number: u32, text: &[u8])
     ensures { r.new ≡ laid r.old (entry l number).start text.now }
 {

@@ -23,6 +23,7 @@ abbrev pub course : Way → Course
 course (Reject codes) = rejecting codes
 course (Judge n blocks) = judging n (lent blocks)
 
+-- tied to the paper by `refused`, `whole` and `ready` of route/Laws
 abbrev pub told : Result Way Refusal → Result Course Refusal
 told (Ok w) = Ok (course w)
 told (Err r) = Err r

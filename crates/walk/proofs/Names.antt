@@ -4,7 +4,7 @@ use Prim.Native.Nat.{ℕ, suc, ◌+◌, ◌-◌, ◌*◌, ◌%◌, ◌^◌, ◌�
 use mathlib.Core.List.{[], ◌∷◌}
 use mathlib.Core.Path.{◌≡◌, refl, sym, ap, ◌∙◌}
 use mathlib.Core.Bool.{Bool, true, false, cond}
-use native.Mathlib.Nat.{add_comm}
+use native.Mathlib.Nat.{add_comm, add-sub_cancel_left}
 use native.Mathlib.Omega.{arith}
 use borrow.Author.Tests.{eqb-true, eqb-false, ne_eqb}
 use lib.Arith.{digits_mod}
@@ -36,6 +36,19 @@ module _ (k : ℕ) (r : Bytes) (at w : ℕ) (few : k ≤ 8) (e : w ≡ little (p
       let less : little s < 256 ^ k = little_lt k s first_bytes (omega (arith, length-take k (drop at r))) in
       ap (λ (x : ℕ). x % 256 ^ k) (e ∙ little_split k (part at 8 r) ∙ ap (λ (l : Bytes). little l + q * 256 ^ k) first ∙ add_comm (little s) (q * 256 ^ k))
       ∙ digits_mod q less
+
+-- the first six
+pub six_value : (r : Bytes) (at w : ℕ) → w ≡ little (part at 8 r) → every is_byte (part at 8 r) ≡ true → w % 281474976710656 ≡ little (part at 6 r)
+six_value r at w e h = first_told 6 r at w (omega arith) e h
+
+pub six_bytes : (r : Bytes) (at : ℕ) → every is_byte (part at 8 r) ≡ true → every is_byte (part at 6 r) ≡ true
+six_bytes r at h = first_bytes 6 r at (little (part at 8 r)) (omega arith) refl h
+
+-- eight bytes, as the code has them
+pub eight_bytes : (r : Bytes) (at : ℕ) → part 0 8 (take (at + 8 - at) (drop at r)) ≡ part at 8 r
+eight_bytes r at = ap (λ (n : ℕ). take 8 (take n (drop at r))) (add-sub_cancel_left at 8) ∙ take-take 8 8 (drop at r) (omega arith)
+
+pub ruleset six = (six_value, six_bytes, eight_bytes)
 
 -- bytes, fewer than the name's where the record ends before, are the name exactly if the numbers are the same: its last byte is not 0
 pub is_name : (k : ℕ) (s b : Bytes) (n : ℕ) → n ≡ little s → every is_byte s ≡ true → length s ≤ suc k

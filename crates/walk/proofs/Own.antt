@@ -54,6 +54,8 @@ module _ (s : Bytes) (h : Head) (e : h ≡ head_of s) where
       let l : u ≡ left s = eu ∙ ap (λ (n : ℕ). drop n s) size ∙ drop_as (count_of s) s in
       ap (map as_record) (on true g) ∙ (λ i. (sym here i, sym r i) ∷ map as_record (own_in (sym l i)))
 
+pub ruleset next_of = (none_next, head_within, one_next)
+
 -- WHAT AN ITEM SAYS
 
 some_bytes : (r : Bytes) → goes_on (kind_of r) ≡ true → 1 ≤ length r

@@ -8,6 +8,7 @@ use Rattle.walk.specs.declared.Others.{Others}
 use Rattle.walk.specs.Parts.{own_in}
 
 -- a record's kind and bytes, and what an item says of them
+-- tied to the paper by `own_records` of walk/Docs
 abbrev pub as_record : Bytes → Kind × Bytes
 as_record r = (kind_of r, r)
 
@@ -15,5 +16,6 @@ abbrev pub seen : Record → Kind × Bytes
 seen r = (r.kind, r.bytes.now)
 
 -- the records that are still to come
+-- tied to the paper by `own_records` of walk/Docs
 abbrev pub others_left : Others → List (Kind × Bytes)
 others_left s = map as_record (own_in s.left.now)
