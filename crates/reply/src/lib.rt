@@ -44,7 +44,7 @@ fn zeros_before(n: usize) -> usize
     count_above(n, &[10, 100, 1_000, 10_000, 100_000, 1_000_000])
 }
 
-// The number without them.
+// The number without them. Not by `write!` into a buffer of fixed size: what that ensures does not say that the text fits.
 fn put_number(out: &mut [u8], n: usize) -> usize
     ensures value { result ≡ length (plain 7 n ++ 10 ∷ []) }
     ensures out_after { out.new ≡ laid out.old 0 (plain 7 n ++ 10 ∷ []) }
