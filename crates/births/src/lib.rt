@@ -50,7 +50,8 @@ fn validity(primary: bool, spouse: bool) -> u8
     }
 }
 
-// Field 0117 of a document with so many payments whose records after the first start at a place; 0 where no date is compared.
+// Field 0117 of a document with so many payments whose records after the first start at a place; 0 where no date is compared. It is a byte,
+// as the Key holds it.
 #[tactic(auto, using(crate::proofs::First::no_payment), unfolding(paper::specs::Conditions::birth_byte))]
 pub fn birth_byte(t: &[u8], from: usize, payer: &[u8], spouse: &[u8], pays: usize) -> u8
     ensures { result ≡ birth_byte (first_auth (own_in (drop from t.now))) payer.now spouse.now pays }

@@ -80,7 +80,7 @@ pub fn line_of<'a>(block: &'a [u8], width: usize, key: &[u8]) -> &'a [u8]
     }
 }
 
-// The lines with this key, as bytes.
+// The lines with this key, as bytes; no byte where there is none, as its public contract has it.
 pub fn rows_of<'a>(block: &'a [u8], width: usize, key: &[u8]) -> &'a [u8]
     ensures { result.now ≡ rows_in width key.now block.now }
 {

@@ -10,7 +10,7 @@ use lines::good_body;
 use paper::Reference;
 
 // The lines of the block of this kind that starts the slice, and what follows the block. Its head says how many bytes its lines have, and
-// its kind, as numbers.
+// its kind, as numbers; so the kind is one here.
 #[tactic(auto, unfolding(paper::specs::Pack::good_block, paper::specs::Pack::body, paper::specs::Pack::after, paper::specs::Pack::size_said, paper::specs::Pack::kind_said))]
 fn block(kind: u8, s: &[u8]) -> Option<(&[u8], &[u8])>
     ensures { MatchOption result (good_block kind s.now ≡ false)

@@ -13,6 +13,7 @@ ghost use Rattle.recordset.specs.Key.{key_of};
 use paper::{Judgment, Kind, Layout, Letter, Verdict};
 use record::Key;
 
+// Field 0065, a byte as the Key holds it.
 #[tactic(auto, unfolding(paper::specs::File::pin_byte))]
 fn pin_byte(j: Judgment) -> u8
     ensures { result ≡ pin_byte j.known j.found.ath j.facts }

@@ -12,7 +12,8 @@ use paper::{Facts, Kind};
 // Of an FRM of an unknown form: its one rule.
 static UNKNOWN: [[u8; 8]; 1] = [*b"00000044"];
 
-// What is written of each rule of a kind, its field and its code, in its table's order.
+// What is written of each rule of a kind, its field and its code, in its table's order. As digits, since to write them from a number takes a
+// sixth of a file of very many findings.
 #[tactic(auto, unfolding(words::specs::Tables::rule_text))]
 pub fn texts(kind: Kind) -> &'static [[u8; 8]]
     ensures { result.now ≡ map rule_text (rules_of kind) }

@@ -1,5 +1,5 @@
-// The words of document 01's conditions, over a field: most say whether it is at fault. Whether a field is digits is for the caller to
-// tell, who has the table of kinds. A rule in a set.
+// The words of document 01's conditions, over a field: most say whether it is at fault. Whether the field is digits is told to those that
+// ask it, since several rules of one field do and it is tested once. And a rule in a set.
 #![tactic(auto)]
 
 ghost use Rattle.std.specs.Prelude.{◌≡◌, not, ◌&&◌, ◌||◌, ◌≤◌, length, take};
