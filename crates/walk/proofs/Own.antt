@@ -48,13 +48,16 @@ module _ (s : Bytes) (h : Head) (e : h ≡ head_of s) where
   pub head_within : h.size ≤ length s
   head_within = omega (arith, size, length-take (count_of s) s)
 
+  pub told_next : (b : Bytes) → b ≡ take h.size s → h.kind ≡ kind_of b
+  told_next b eb = here ∙ ap kind_of (sym (eb ∙ ap (λ (n : ℕ). take n s) size ∙ take_as (count_of s) s))
+
   pub one_next : (b u : Bytes) → goes_on h.kind ≡ true → b ≡ take h.size s → u ≡ drop h.size s → map as_record (own_in s) ≡ (h.kind, b) ∷ map as_record (own_in u)
   one_next b u g eb eu =
       let r : b ≡ front s = eb ∙ ap (λ (n : ℕ). take n s) size ∙ take_as (count_of s) s in
       let l : u ≡ left s = eu ∙ ap (λ (n : ℕ). drop n s) size ∙ drop_as (count_of s) s in
       ap (map as_record) (on true g) ∙ (λ i. (sym here i, sym r i) ∷ map as_record (own_in (sym l i)))
 
-pub ruleset next_of = (none_next, head_within, one_next)
+pub ruleset next_of = (none_next, head_within, told_next, one_next)
 
 -- WHAT AN ITEM SAYS
 

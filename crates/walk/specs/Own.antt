@@ -1,21 +1,9 @@
 -- The records that go on with a document, as an iterator gives them. Assumes nothing.
-use Rattle.std.specs.Prelude.{List, map}
+pub use Rattle.walk.specs.Left.{as_record, others_left}
 use Rattle.paper.specs.declared.Kind.{Kind}
 use Rattle.paper.specs.Bytes.{Bytes}
-use Rattle.paper.specs.Walk.{kind_of}
 use Rattle.walk.specs.declared.Record.{Record}
-use Rattle.walk.specs.declared.Others.{Others}
-use Rattle.walk.specs.Parts.{own_in}
 
--- a record's kind and bytes, and what an item says of them
--- tied to the paper by `own_records` of walk/Docs
-abbrev pub as_record : Bytes → Kind × Bytes
-as_record r = (kind_of r, r)
-
+-- what an item says of a record's kind and bytes
 abbrev pub seen : Record → Kind × Bytes
 seen r = (r.kind, r.bytes.now)
-
--- the records that are still to come
--- tied to the paper by `own_records` of walk/Docs
-abbrev pub others_left : Others → List (Kind × Bytes)
-others_left s = map as_record (own_in s.left.now)

@@ -1,5 +1,5 @@
 use Rattle.std.proofs.Common.{arith}
-use Rattle.walk.proofs.Own.{next_own, next_kind, next_some}
+use Rattle.walk.proofs.Own.{next_own, next_some}
 use Rattle.walk.proofs.Facts.{opened_fits, known_start, no_document, known_on, known_end}
 use Rattle.walk.proofs.document.Goals as goal
 
@@ -13,9 +13,6 @@ overflow_add-at c =
 
 pub loop-record-init : goal.loop-record-init
 loop-record-init c = known_start c.args.t.now c.args.at _ c.head_at-first.ensures _ c.opens.ensures _ c.if-not-opens.false (cc)
-
-pub with_record-facts-requires-clause-kind : goal.with_record-facts-requires-clause-kind
-with_record-facts-requires-clause-kind c = next_kind _ _ _ _ c.in-Some.ensures.steps
 
 pub loop-record-preserved : goal.loop-record-preserved
 loop-record-preserved c =
