@@ -1,7 +1,7 @@
 // The rules of the 4868: which of them a form breaks.
 #![tactic(auto)]
 
-ghost use Rattle.std.specs.Prelude.{◌≡◌, not, cond, ◌&&◌, [], ◌∷◌, ◌%◌, ◌≤◌, None, eqb, length, map};
+ghost use Rattle.std.specs.Prelude.{◌≡◌, ℕ, Bool, List, not, cond, ◌&&◌, [], ◌∷◌, ◌%◌, ◌≤◌, None, eqb, length, map};
 ghost use Rattle.paper.specs.declared.Layout.TheVariants.{L4868};
 ghost use Rattle.paper.specs.Bytes.{within, empty, digits};
 ghost use Rattle.paper.specs.Fields.{street, city};
@@ -88,6 +88,14 @@ fn is_addressed(n: u32, form: &[u8]) -> bool
         b'3' => of_foreign(n),
         _ => !of_foreign(n),
     }
+}
+
+// An address field is judged, and fails its test.
+fn is_addressed_not<F: FnOnce(&[u8]) -> bool>(n: u32, form: &[u8], good: F) -> bool
+    requires { F.IsAlwaysCallable good }
+    ensures { (p : List ℕ → Bool) → ((x : _) (r : _) → F.post good x r → r ≡ p x.now) → result ≡ (addressed n form.now && not (p (field L4868 n form.now))) }
+{
+    is_addressed(n, form) && !good(field_of(L4868, n, form))
 }
 
 #[tactic(auto, unfolding(paper::specs::Pack::lines_in), using(crate::proofs::Laws::no_rows))]
@@ -232,26 +240,11 @@ fn of_address(form: &[u8], zips: &[u8], later: u64) -> u64
     let set = words::and_rule(!words::one_of(b"123 ", field_of(L4868, 80, form)), set);
     let set = words::and_rule(wrong_zip(form, zips), set);
     let set = words::and_rule(wrong_state(form, zips), set);
-    let set = words::and_rule(
-        is_addressed(50, form) && !field::city(field_of(L4868, 50, form)),
-        set,
-    );
-    let set = words::and_rule(
-        is_addressed(40, form) && !field::street(field_of(L4868, 40, form)),
-        set,
-    );
-    let set = words::and_rule(
-        is_addressed(36, form) && !field::city(field_of(L4868, 36, form)),
-        set,
-    );
-    let set = words::and_rule(
-        is_addressed(34, form) && !field::street(field_of(L4868, 34, form)),
-        set,
-    );
-    words::and_rule(
-        is_addressed(32, form) && !field::street(field_of(L4868, 32, form)),
-        set,
-    )
+    let set = words::and_rule(is_addressed_not(50, form, field::city), set);
+    let set = words::and_rule(is_addressed_not(40, form, field::street), set);
+    let set = words::and_rule(is_addressed_not(36, form, field::city), set);
+    let set = words::and_rule(is_addressed_not(34, form, field::street), set);
+    words::and_rule(is_addressed_not(32, form, field::street), set)
 }
 
 // The rules on 0090 to 0114, the taxpayer and the spouse, before later ones.
