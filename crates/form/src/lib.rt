@@ -1,9 +1,9 @@
 // The rules of the 4868: which of them a form breaks.
 #![tactic(auto)]
 
-ghost use Rattle.std.specs.Prelude.{◌≡◌, not, cond, ◌&&◌, [], ◌∷◌, ◌%◌, ◌≤◌, None, eqb, length, map};
+ghost use Rattle.std.specs.Prelude.{◌≡◌, ℕ, Bool, List, not, cond, ◌&&◌, [], ◌∷◌, ◌%◌, ◌≤◌, None, eqb, length, map};
 ghost use Rattle.paper.specs.declared.Layout.TheVariants.{L4868};
-ghost use Rattle.paper.specs.Bytes.{within, empty};
+ghost use Rattle.paper.specs.Bytes.{within, empty, digits};
 ghost use Rattle.paper.specs.Fields.{street, city};
 ghost use Rattle.paper.specs.Layouts.{field};
 ghost use Rattle.paper.specs.Pack.{lines_in};
@@ -12,17 +12,20 @@ ghost use Rattle.words.specs.Tables.{rule_text};
 ghost use Rattle.words.specs.Sets.{bit_on, bits_on, bits_by};
 ghost use Rattle.words.specs.Past.{number_if, identity_of, no_identity};
 ghost use Rattle.form.specs.Breaks.{breaks, is_at_most};
-ghost use Rattle.form.specs.Told.{told_by};
 
 use layout::field_of;
 use paper::Layout::L4868;
 use paper::{Facts, Identity};
 
-// A form's numbers, and whether 0100 is digits: what several rules ask.
+// A form with its numbers, and whether 0100 is digits: what several rules ask.
 #[derive(Clone, Copy)]
-struct Told {
+struct Form<'a> {
+    bytes: &'a [u8],
     identity: Identity,
     digits100: bool,
+    ghost whole: { length bytes.now ≡ 384 },
+    ghost numbers: { identity ≡ identity_of bytes.now },
+    ghost spouse: { digits100 ≡ digits (field L4868 100 bytes.now) },
 }
 
 // The set of the rules that a form breaks, and its numbers.
@@ -51,12 +54,14 @@ fn identity_of(form: &[u8]) -> Identity
     }
 }
 
-fn tell(form: &[u8]) -> Told
-    ensures { result ≡ told_by form.now }
+fn tell(bytes: &[u8]) -> Form<'_>
+    requires { length bytes.now ≡ 384 }
+    ensures { result.bytes.now ≡ bytes.now }
 {
-    Told {
-        identity: identity_of(form),
-        digits100: kinds::digits(field_of(L4868, 100, form)),
+    Form {
+        bytes,
+        identity: identity_of(bytes),
+        digits100: kinds::digits(field_of(L4868, 100, bytes)),
     }
 }
 
@@ -83,6 +88,14 @@ fn is_addressed(n: u32, form: &[u8]) -> bool
         b'3' => of_foreign(n),
         _ => !of_foreign(n),
     }
+}
+
+// An address field is judged, and fails its test.
+fn is_addressed_not<F: FnOnce(&[u8]) -> bool>(n: u32, form: &[u8], good: F) -> bool
+    requires { F.IsAlwaysCallable good }
+    ensures { (p : List ℕ → Bool) → ((x : _) (r : _) → F.post good x r → r ≡ p x.now) → result ≡ (addressed n form.now && not (p (field L4868 n form.now))) }
+{
+    is_addressed(n, form) && !good(field_of(L4868, n, form))
 }
 
 #[tactic(auto, unfolding(paper::specs::Pack::lines_in), using(crate::proofs::Laws::no_rows))]
@@ -148,40 +161,41 @@ fn not_above(number: Option<u64>, past: Option<u64>, size: u64) -> bool
 
 // The rules on the form and its head, before later ones.
 #[tactic(auto, unfolding(paper::specs::Conditions::form_holds, paper::specs::Conditions::pick, paper::specs::Conditions::other_number, words::specs::Past::identity_of), using(words::proofs::Digits::some_number, crate::proofs::Laws::other_told))]
-fn of_head(form: &[u8], told: Told, date: &[u8], whole: Facts, later: u64) -> u64
-    requires { told ≡ told_by form.now }
-    ensures { result ≡ bits_on (breaks form.now [] [] [] None None date.now whole) (1 ∷ 44 ∷ 45 ∷ 310 ∷ 30004 ∷ 50003 ∷ []) later }
+fn of_head(form: &Form<'_>, date: &[u8], whole: Facts, later: u64) -> u64
+    ensures { result ≡ bits_on (breaks form.now.bytes.now [] [] [] None None date.now whole) (1 ∷ 44 ∷ 45 ∷ 310 ∷ 30004 ∷ 50003 ∷ []) later }
 {
-    let set = words::and_rule(!text::is_same(field_of(L4868, 5, form), b"200312"), later);
+    let set = words::and_rule(
+        !text::is_same(field_of(L4868, 5, form.bytes), b"200312"),
+        later,
+    );
     // Where 0003 is the same as 0090, both are digits or neither is.
     let set = words::and_rule(
         words::other_number(
-            told.identity.ssn.is_some(),
-            field_of(L4868, 3, form),
-            field_of(L4868, 90, form),
+            form.identity.ssn.is_some(),
+            field_of(L4868, 3, form.bytes),
+            field_of(L4868, 90, form.bytes),
         ),
         set,
     );
     let set = words::and_rule(words::late(date), set);
-    let set = words::and_rule(fillers(form), set);
-    let set = words::and_rule(words::wrong_page(field_of(L4868, 2, form)), set);
+    let set = words::and_rule(fillers(form.bytes), set);
+    let set = words::and_rule(words::wrong_page(field_of(L4868, 2, form.bytes)), set);
     words::and_rule(!whole.sum, set)
 }
 
 // The rules on 0007 and 0008, the numbers of the declaration, before later ones.
 #[tactic(auto, unfolding(paper::specs::Conditions::form_holds, paper::specs::Conditions::pick, paper::specs::Conditions::not_double0, paper::specs::Conditions::not_year4, words::specs::Past::identity_of), using(words::proofs::Digits::some_number, crate::proofs::Laws::dsn_told, crate::proofs::Laws::dcn_told))]
-fn of_numbers(form: &[u8], told: Told, dsn: Option<u64>, dcn: Option<u64>, later: u64) -> u64
-    requires { (told ≡ told_by form.now) × (length form.now ≡ 384) }
-    ensures { result ≡ bits_on (breaks form.now [] [] [] dsn dcn [] (facts_of [])) (70031 ∷ 70060 ∷ 80032 ∷ 80061 ∷ 80062 ∷ 80064 ∷ []) later }
+fn of_numbers(form: &Form<'_>, dsn: Option<u64>, dcn: Option<u64>, later: u64) -> u64
+    ensures { result ≡ bits_on (breaks form.now.bytes.now [] [] [] dsn dcn [] (facts_of [])) (70031 ∷ 70060 ∷ 80032 ∷ 80061 ∷ 80062 ∷ 80064 ∷ []) later }
 {
-    let own_dsn = told.identity.dsn;
-    let own_dcn = told.identity.dcn;
+    let own_dsn = form.identity.dsn;
+    let own_dcn = form.identity.dcn;
     let set = words::and_rule(
-        words::not_year_4(own_dcn.is_some(), field_of(L4868, 8, form)),
+        words::not_year_4(own_dcn.is_some(), field_of(L4868, 8, form.bytes)),
         later,
     );
     let set = words::and_rule(
-        words::not_double_0(own_dcn.is_some(), field_of(L4868, 8, form)),
+        words::not_double_0(own_dcn.is_some(), field_of(L4868, 8, form.bytes)),
         set,
     );
     let set = words::and_rule(not_above(own_dcn, dcn, 100000000000000), set);
@@ -192,23 +206,25 @@ fn of_numbers(form: &[u8], told: Told, dsn: Option<u64>, dcn: Option<u64>, later
 
 // The rules on 0010 to 0030, the names, before later ones.
 #[tactic(auto, unfolding(paper::specs::Conditions::form_holds, paper::specs::Conditions::pick, paper::specs::Conditions::unlisted, words::specs::Past::identity_of), using(words::proofs::Digits::some_number))]
-fn of_names(form: &[u8], told: Told, payer: &[u8], spouse: &[u8], later: u64) -> u64
-    requires { told ≡ told_by form.now }
-    ensures { result ≡ bits_on (breaks form.now payer.now spouse.now [] None None [] (facts_of [])) (100315 ∷ 200316 ∷ 300020 ∷ 300312 ∷ []) later }
+fn of_names(form: &Form<'_>, payer: &[u8], spouse: &[u8], later: u64) -> u64
+    ensures { result ≡ bits_on (breaks form.now.bytes.now payer.now spouse.now [] None None [] (facts_of [])) (100315 ∷ 200316 ∷ 300020 ∷ 300312 ∷ []) later }
 {
     let set = words::and_rule(
-        words::wrong_and(field_of(L4868, 30, form), field_of(L4868, 100, form)),
+        words::wrong_and(
+            field_of(L4868, 30, form.bytes),
+            field_of(L4868, 100, form.bytes),
+        ),
         later,
     );
-    let set = words::and_rule(!field::name(field_of(L4868, 30, form)), set);
+    let set = words::and_rule(!field::name(field_of(L4868, 30, form.bytes)), set);
     let set = words::and_rule(
-        words::unlisted(told.digits100, field_of(L4868, 20, form), spouse),
+        words::unlisted(form.digits100, field_of(L4868, 20, form.bytes), spouse),
         set,
     );
     words::and_rule(
         words::unlisted(
-            told.identity.ssn.is_some(),
-            field_of(L4868, 10, form),
+            form.identity.ssn.is_some(),
+            field_of(L4868, 10, form.bytes),
             payer,
         ),
         set,
@@ -224,41 +240,25 @@ fn of_address(form: &[u8], zips: &[u8], later: u64) -> u64
     let set = words::and_rule(!words::one_of(b"123 ", field_of(L4868, 80, form)), set);
     let set = words::and_rule(wrong_zip(form, zips), set);
     let set = words::and_rule(wrong_state(form, zips), set);
-    let set = words::and_rule(
-        is_addressed(50, form) && !field::city(field_of(L4868, 50, form)),
-        set,
-    );
-    let set = words::and_rule(
-        is_addressed(40, form) && !field::street(field_of(L4868, 40, form)),
-        set,
-    );
-    let set = words::and_rule(
-        is_addressed(36, form) && !field::city(field_of(L4868, 36, form)),
-        set,
-    );
-    let set = words::and_rule(
-        is_addressed(34, form) && !field::street(field_of(L4868, 34, form)),
-        set,
-    );
-    words::and_rule(
-        is_addressed(32, form) && !field::street(field_of(L4868, 32, form)),
-        set,
-    )
+    let set = words::and_rule(is_addressed_not(50, form, field::city), set);
+    let set = words::and_rule(is_addressed_not(40, form, field::street), set);
+    let set = words::and_rule(is_addressed_not(36, form, field::city), set);
+    let set = words::and_rule(is_addressed_not(34, form, field::street), set);
+    words::and_rule(is_addressed_not(32, form, field::street), set)
 }
 
 // The rules on 0090 to 0114, the taxpayer and the spouse, before later ones.
 #[tactic(auto, unfolding(paper::specs::Conditions::form_holds, paper::specs::Conditions::pick, paper::specs::Conditions::form0010, paper::specs::Conditions::not_digits, paper::specs::Conditions::no_number, words::specs::Past::identity_of), using(words::proofs::Digits::some_number))]
-fn of_payers(form: &[u8], told: Told, later: u64) -> u64
-    requires { told ≡ told_by form.now }
-    ensures { result ≡ bits_on (breaks form.now [] [] [] None None [] (facts_of [])) (900010 ∷ 1000010 ∷ 1000071 ∷ 1000314 ∷ 1120010 ∷ 1140010 ∷ []) later }
+fn of_payers(form: &Form<'_>, later: u64) -> u64
+    ensures { result ≡ bits_on (breaks form.now.bytes.now [] [] [] None None [] (facts_of [])) (900010 ∷ 1000010 ∷ 1000071 ∷ 1000314 ∷ 1120010 ∷ 1140010 ∷ []) later }
 {
-    let spouse = field_of(L4868, 100, form);
-    let set = words::and_rule(words::not_x(field_of(L4868, 114, form)), later);
-    let set = words::and_rule(words::not_x(field_of(L4868, 112, form)), set);
-    let set = words::and_rule(no_spouse(form), set);
-    let set = words::and_rule(words::no_number(told.digits100, spouse), set);
-    let set = words::and_rule(!text::blank(spouse) && !told.digits100, set);
-    words::and_rule(told.identity.ssn.is_none(), set)
+    let spouse = field_of(L4868, 100, form.bytes);
+    let set = words::and_rule(words::not_x(field_of(L4868, 114, form.bytes)), later);
+    let set = words::and_rule(words::not_x(field_of(L4868, 112, form.bytes)), set);
+    let set = words::and_rule(no_spouse(form.bytes), set);
+    let set = words::and_rule(words::no_number(form.digits100, spouse), set);
+    let set = words::and_rule(!text::blank(spouse) && !form.digits100, set);
+    words::and_rule(form.identity.ssn.is_none(), set)
 }
 
 // A field that is present but not digits, before later rules.
@@ -307,11 +307,11 @@ pub fn broken(
     }
     let told = tell(form);
     let set = of_money(form, 0);
-    let set = of_payers(form, told, set);
+    let set = of_payers(&told, set);
     let set = of_address(form, zips, set);
-    let set = of_names(form, told, payer, spouse, set);
-    let set = of_numbers(form, told, dsn, dcn, set);
-    let set = of_head(form, told, date, whole, set);
+    let set = of_names(&told, payer, spouse, set);
+    let set = of_numbers(&told, dsn, dcn, set);
+    let set = of_head(&told, date, whole, set);
     let identity = told.identity;
     Reading { set, identity }
 }
