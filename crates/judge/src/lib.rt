@@ -64,9 +64,8 @@ const NO_FINDINGS: Findings = Findings {
 fn keep(b: Broken, list: &mut ArrayVec<Broken, 96>)
     ensures { list.new.items ≡ take 96 (list.old.items ++ b ∷ []) }
 {
-    if !list.is_full() {
-        list.push(b);
-    }
+    // Where there is no room for it, it is not kept.
+    let _ = list.try_push(b);
 }
 
 // A record of a kind at a place, with the set of the rules that it breaks, added to the findings and to the list of such records.
