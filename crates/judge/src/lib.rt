@@ -96,10 +96,7 @@ fn collected(
 fn is_accepted(ssn: Option<u64>, accepted: &[u64]) -> bool
     ensures { result ≡ some_among ssn accepted.now }
 {
-    match ssn {
-        Some(ssn) => accepted.contains(&ssn),
-        None => false,
-    }
+    ssn.is_some_and(|n| accepted.contains(&n))
 }
 
 // The nearest number, once this one is read.
