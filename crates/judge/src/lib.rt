@@ -242,7 +242,7 @@ fn letter_of(clean: bool, identity: Identity, filed: &[u8], form: &[u8], accepte
     if !clean {
         return Letter::R;
     }
-    if 0 < lookup::line_of(filed, 9, field_of(L4868, 90, form)).len() {
+    if !lookup::line_of(filed, 9, field_of(L4868, 90, form)).is_empty() {
         return Letter::D;
     }
     if is_accepted(identity.ssn, accepted) {
