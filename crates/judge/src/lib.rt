@@ -14,7 +14,7 @@ ghost use Rattle.lookup.specs.Find.{line_in};
 ghost use Rattle.walk.specs.Parts.{doc_here};
 ghost use Rattle.judge.specs.Kept.{broke_if, held, listed, kept_of, added};
 ghost use Rattle.words.specs.Past.{identity_of};
-ghost use Rattle.judge.specs.Seen.{trail, numbers_in, some_among, seen_by, no_past, number_after, next_past, past_after};
+ghost use Rattle.judge.specs.Seen.{trail, numbers_in, some_among, seen_by, no_past, next_past, past_after};
 ghost use Rattle.judge.specs.Judged.{searched, bank_for, item_in, broke_from, form_broke, form_births, broke_in, counts, judgment_of};
 
 use arrayvec::ArrayVec;
@@ -99,20 +99,13 @@ fn is_accepted(ssn: Option<u64>, accepted: &[u64]) -> bool
     ssn.is_some_and(|n| accepted.contains(&n))
 }
 
-// The nearest number, once this one is read.
-fn number_after(number: Option<u64>, n: Option<u64>) -> Option<u64>
-    ensures { result ≡ number_after number n }
-{
-    number.or(n)
-}
-
 // What a form leaves for the later documents to see, with its letter.
 #[tactic(auto, unfolding(crate::specs::Seen::next_past))]
 fn pass<const N: usize>(identity: Identity, letter: Letter, past: &mut Past<N>)
     ensures { trail past.new ≡ next_past N identity letter (trail past.old) }
 {
-    past.dsn = number_after(identity.dsn, past.dsn);
-    past.dcn = number_after(identity.dcn, past.dcn);
+    past.dsn = identity.dsn.or(past.dsn);
+    past.dcn = identity.dcn.or(past.dcn);
     if let (Letter::A, Some(ssn)) = (letter, identity.ssn) {
         // Where there is no room for it, it is not kept.
         let _ = past.accepted.try_push(ssn);
