@@ -3,7 +3,7 @@ use mathlib.Core.Path.{◌≡◌, refl, sym, ap, ◌∙◌}
 use mathlib.Core.Bool.{Bool, true, false, not, cond, ◌||◌}
 use Rattle.std.proofs.Common.{Option}
 use mathlib.Core.List.{List, [], ◌∷◌, ◌++◌, map, append-nil}
-use Prim.Native.Nat.{ℕ, ◌+◌, ◌-◌, ◌≤◌, ◌<◌}
+use Prim.Native.Nat.{ℕ, ◌+◌, ◌-◌, ◌≤◌}
 use native.Mathlib.Omega.{arith}
 use borrow.Author.Tests.{eq-eqb, ne_eqb, not-false}
 use lib.Dec.{eqb, ltb}
@@ -17,7 +17,6 @@ use Rattle.paper.specs.declared.Kind.{Kind}
 use Rattle.paper.specs.declared.Kind.TheVariants.{TranA, TranB, Form, Unknown, Payment, Auth, Summary, Recap, Stray}
 use Rattle.paper.specs.declared.Layout.TheVariants.{L4868, LPayment}
 use Rattle.paper.specs.declared.Letter.{Letter}
-use Rattle.paper.specs.declared.Letter.TheVariants.{D}
 use Rattle.paper.specs.Bytes.{Bytes, bit, every, those, empty, member, first_or, written}
 use Rattle.paper.specs.Layouts.{form4868, authentication, entry, field}
 use Rattle.paper.specs.Pack.{Blocks, Lines, lines_in}
@@ -50,19 +49,12 @@ module _ (clean : Bool) (filed f90 ssn line : Bytes) (accepted : List Bytes) (e-
   on =
       (λ i. letter_by (not-false clean e-clean i) (not (empty (line_in 9 (sym e-ssn i) filed)) || member (sym e-ssn i) accepted)) ∙ ap (λ (l : Bytes). letter_by true (not (empty l) || member ssn accepted)) (sym e-line)
 
-  pub letter_filed : 0 < length line → D ≡ letter_by clean (not (empty (line_in 9 f90 filed)) || member f90 accepted)
-  letter_filed h = sym (on ∙ by line h)
-    where
-      by : (l : Bytes) → 0 < length l → letter_by true (not (empty l) || member ssn accepted) ≡ D
-      by [] q = absurd (omega arith)
-      by (x ∷ l) q = refl
-
-  pub letter_rest : (b : Bool) → length line ≤ 0 → b ≡ member ssn accepted → letter_by true b ≡ letter_by clean (not (empty (line_in 9 f90 filed)) || member f90 accepted)
+  pub letter_rest : (b : Bool) → eqb (length line) 0 ≡ true → b ≡ member ssn accepted → letter_by true b ≡ letter_by clean (not (empty (line_in 9 f90 filed)) || member f90 accepted)
   letter_rest b h e = sym (on ∙ by line h ∙ ap (letter_by true) (sym e))
     where
-      by : (l : Bytes) → length l ≤ 0 → letter_by true (not (empty l) || member ssn accepted) ≡ letter_by true (member ssn accepted)
+      by : (l : Bytes) → eqb (length l) 0 ≡ true → letter_by true (not (empty l) || member ssn accepted) ≡ letter_by true (member ssn accepted)
       by [] q = refl
-      by (x ∷ l) q = absurd (omega arith)
+      by (x ∷ l) q = absurd (never (sym (ne_eqb (length (x ∷ l)) 0 (λ e. omega arith)) ∙ q))
 
 -- THE RECORDS OF A 4868 DOCUMENT
 

@@ -14,7 +14,7 @@ ghost use Rattle.lookup.specs.Find.{line_in};
 ghost use Rattle.walk.specs.Parts.{doc_here};
 ghost use Rattle.judge.specs.Kept.{broke_if, held, listed, kept_of, added};
 ghost use Rattle.words.specs.Past.{identity_of};
-ghost use Rattle.judge.specs.Seen.{trail, numbers_in, some_among, seen_by, no_past, number_after, next_past, past_after};
+ghost use Rattle.judge.specs.Seen.{trail, numbers_in, some_among, seen_by, no_past, next_past, past_after};
 ghost use Rattle.judge.specs.Judged.{searched, bank_for, item_in, broke_from, form_broke, form_births, broke_in, counts, judgment_of};
 
 use arrayvec::ArrayVec;
@@ -64,9 +64,8 @@ const NO_FINDINGS: Findings = Findings {
 fn keep(b: Broken, list: &mut ArrayVec<Broken, 96>)
     ensures { list.new.items ≡ take 96 (list.old.items ++ b ∷ []) }
 {
-    if !list.is_full() {
-        list.push(b);
-    }
+    // Where there is no room for it, it is not kept.
+    let _ = list.try_push(b);
 }
 
 // A record of a kind at a place, with the set of the rules that it breaks, added to the findings and to the list of such records.
@@ -97,17 +96,7 @@ fn collected(
 fn is_accepted(ssn: Option<u64>, accepted: &[u64]) -> bool
     ensures { result ≡ some_among ssn accepted.now }
 {
-    match ssn {
-        Some(ssn) => accepted.contains(&ssn),
-        None => false,
-    }
-}
-
-// The nearest number, once this one is read.
-fn number_after(number: Option<u64>, n: Option<u64>) -> Option<u64>
-    ensures { result ≡ number_after number n }
-{
-    number.or(n)
+    ssn.is_some_and(|n| accepted.contains(&n))
 }
 
 // What a form leaves for the later documents to see, with its letter.
@@ -115,8 +104,8 @@ fn number_after(number: Option<u64>, n: Option<u64>) -> Option<u64>
 fn pass<const N: usize>(identity: Identity, letter: Letter, past: &mut Past<N>)
     ensures { trail past.new ≡ next_past N identity letter (trail past.old) }
 {
-    past.dsn = number_after(identity.dsn, past.dsn);
-    past.dcn = number_after(identity.dcn, past.dcn);
+    past.dsn = identity.dsn.or(past.dsn);
+    past.dcn = identity.dcn.or(past.dcn);
     if let (Letter::A, Some(ssn)) = (letter, identity.ssn) {
         // Where there is no room for it, it is not kept.
         let _ = past.accepted.try_push(ssn);
@@ -246,7 +235,7 @@ fn letter_of(clean: bool, identity: Identity, filed: &[u8], form: &[u8], accepte
     if !clean {
         return Letter::R;
     }
-    if 0 < lookup::line_of(filed, 9, field_of(L4868, 90, form)).len() {
+    if !lookup::line_of(filed, 9, field_of(L4868, 90, form)).is_empty() {
         return Letter::D;
     }
     if is_accepted(identity.ssn, accepted) {

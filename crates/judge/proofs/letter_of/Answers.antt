@@ -10,12 +10,12 @@ pub returns-then-is_accepted : goal.returns-then-is_accepted
 returns-then-is_accepted c =
     let a = c.args in
     ap (letter_by true) (sym c.if-is_accepted.true)
-    ∙ letter_rest a.clean _ _ _ _ (numbers_in a.accepted.now) (not_no _ c.if-not-clean.false) c.field_of.ensures c.line_of.ensures _ c.if-line_of-gt0.false
+    ∙ letter_rest a.clean _ _ _ _ (numbers_in a.accepted.now) (not_no _ c.if-not-clean.false) c.field_of.ensures c.line_of.ensures _ (sym c.is_empty.ensures ∙ c.if-not-is_empty.false)
     (own_member a.form.now a.accepted.now a.identity _ c.requires.0 c.requires.1 c.field_of.ensures _ c.is_accepted.ensures)
 
 pub returns : goal.returns
 returns c =
     let a = c.args in
     ap (letter_by true) (sym c.if-is_accepted.false)
-    ∙ letter_rest a.clean _ _ _ _ (numbers_in a.accepted.now) (not_no _ c.if-not-clean.false) c.field_of.ensures c.line_of.ensures _ c.if-line_of-gt0.false
+    ∙ letter_rest a.clean _ _ _ _ (numbers_in a.accepted.now) (not_no _ c.if-not-clean.false) c.field_of.ensures c.line_of.ensures _ (sym c.is_empty.ensures ∙ c.if-not-is_empty.false)
     (own_member a.form.now a.accepted.now a.identity _ c.requires.0 c.requires.1 c.field_of.ensures _ c.is_accepted.ensures)
