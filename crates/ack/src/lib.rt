@@ -16,7 +16,7 @@ use judge::Past;
 use paper::{Broken, Codes, Layout, Letter, Reference, Refusal};
 use route::Way;
 
-// The accepted documents of a transmission: each has at least 86 bytes.
+// No transmission has more accepted documents: each is a 4868 document of 384 bytes and a SUM of 314. The proof uses only 86 bytes of it.
 const MOST_ACCEPTED: usize = 762;
 
 // Where the record sets end, and how many documents are accepted.
@@ -26,24 +26,17 @@ struct Done {
     accepted: usize,
 }
 
-// THE JUDGED FILE
-
-// The length of the file: TRANA, TRANB and the Recap, and the record sets of all documents.
-fn file_size(t: &[u8], n: usize, reference: Reference, date: &[u8]) -> usize
-    requires { Begins t.now n }
-    ensures { result ≡ 360 + length (sets_in (turns_in (searched (lent reference.entry)) date.now t.now)) }
-{
-    let mut list: ArrayVec<Broken, 96> = ArrayVec::new();
-    let mut past: Past<MOST_ACCEPTED> = Past::new();
-    let mut at: usize = 240;
-    let mut size: usize = 0;
-    for _ in 0..n {
-        let j = judge::judge(t, at, reference, date, &mut past, &mut list);
-        size += 120 + 120 * j.found.kept;
-        at += j.size;
-    }
-    size + 360
+// A sound transmission of n documents, and the blocks of the pack and the date by which they are judged.
+#[derive(Clone, Copy)]
+struct Sound<'a> {
+    t: &'a [u8],
+    n: usize,
+    reference: Reference<'a>,
+    date: &'a [u8],
+    ghost begins: { Begins t.now n },
 }
+
+// THE JUDGED FILE
 
 // The most that the file of n documents can take: the set of a document of 43 bytes has 240, and that of a 4868 document, which has 341
 // bytes more at least, has 11,400 more at most.
@@ -55,84 +48,93 @@ fn most(size: usize, n: usize) -> usize
     360 + 240 * n + 11400 * forms
 }
 
-// The file goes into so many bytes: the most that it could take does, or else what it takes.
-fn has_room(t: &[u8], n: usize, reference: Reference, date: &[u8], room: usize) -> bool
-    requires { Begins t.now n }
-    ensures { result ≡ leb (360 + length (sets_in (turns_in (searched (lent reference.entry)) date.now t.now))) room }
-{
-    if most(t.len(), n) <= room {
-        return true;
+impl Sound<'_> {
+    // The length of the file: TRANA, TRANB and the Recap, and the record sets of all documents.
+    fn file_size(self) -> usize
+        ensures { result ≡ 360 + length (sets_in (turns_in (searched (lent self.entry.reference)) self.entry.date.now self.entry.t.now)) }
+    {
+        let mut list: ArrayVec<Broken, 96> = ArrayVec::new();
+        let mut past: Past<MOST_ACCEPTED> = Past::new();
+        let mut at: usize = 240;
+        let mut size: usize = 0;
+        for _ in 0..self.n {
+            let j = judge::judge(self.t, at, self.reference, self.date, &mut past, &mut list);
+            size += 120 + 120 * j.found.kept;
+            at += j.size;
+        }
+        size + 360
     }
-    file_size(t, n, reference, date) <= room
-}
 
-// The record sets of all documents, written after the 240 bytes of TRANA and TRANB.
-fn write_sets(t: &[u8], n: usize, reference: Reference, date: &[u8], out: &mut [u8]) -> Done
-    requires { Begins t.now n × (240 + length (sets_in (turns_in (searched (lent reference)) date.now t.now)) ≤ length out.old) }
-    ensures { Written (turns_in (searched (lent reference.entry)) date.now t.now) 240 out.old out.new result }
-{
-    let mut list: ArrayVec<Broken, 96> = ArrayVec::new();
-    let mut past: Past<MOST_ACCEPTED> = Past::new();
-    let mut at: usize = 240;
-    let mut to: usize = 240;
-    let mut accepted: usize = 0;
-    for _ in 0..n {
-        let j = judge::judge(t, at, reference, date, &mut past, &mut list);
-        let end = at + j.size;
-        sets::put_set(&mut out[to..], &t[at..end], t, date, j, list.as_slice());
-        to += 120 + 120 * j.found.kept;
-        accepted += usize::from(j.letter == Letter::A);
-        at = end;
+    // The file goes into so many bytes: the most that it could take does, or else what it takes.
+    fn has_room(self, room: usize) -> bool
+        ensures { result ≡ leb (360 + length (sets_in (turns_in (searched (lent self.entry.reference)) self.entry.date.now self.entry.t.now))) room }
+    {
+        if most(self.t.len(), self.n) <= room {
+            return true;
+        }
+        self.file_size() <= room
     }
-    Done { to, accepted }
-}
 
-// TRANA and TRANB, the record sets and the Recap, written at the front of out; and their length.
-fn put_file(
-    t: &[u8],
-    n: usize,
-    reference: Reference,
-    date: &[u8],
-    name: &[u8],
-    out: &mut [u8],
-) -> usize
-    requires { Begins t.now n × (length (judged_file (searched (lent reference)) date.now name.now t.now) ≤ length out.old) }
-    ensures value { result ≡ length (judged_file (searched (lent reference.entry)) date.now name.now t.now) }
-    ensures out_after { out.new ≡ laid out.old 0 (judged_file (searched (lent reference.entry)) date.now name.now t.now) }
-{
-    text::lay(out, 0, &t[0..240]);
-    let done = write_sets(t, n, reference, date, out);
-    let to = done.to;
-    let from = t.len() - 120;
-    let twelve = layout::through(Layout::LTrana, 60, 80, &t[0..120]);
-    record::put_recap(
-        out,
-        to,
-        &t[from..],
-        twelve,
-        done.accepted as u32,
-        n as u32,
-        name,
-    );
-    to + 120
-}
-
-// The file of a transmission that is not rejected whole. That it fits is known before a byte is written.
-fn judge_all(
-    t: &[u8],
-    n: usize,
-    reference: Reference,
-    date: &[u8],
-    name: &[u8],
-    out: &mut [u8],
-) -> Result<usize, Refusal>
-    requires { Begins t.now n }
-    ensures { Given (judged_file (searched (lent reference.entry)) date.now name.now t.now) out.old out.new result }
-{
-    if !has_room(t, n, reference, date, out.len()) {
-        return Err(Refusal::ShortOutput);
+    // The record sets of all documents, written after the 240 bytes of TRANA and TRANB.
+    fn write_sets(self, out: &mut [u8]) -> Done
+        requires { 240 + length (sets_in (turns_in (searched (lent self.reference)) self.date.now self.t.now)) ≤ length out.old }
+        ensures { Written (turns_in (searched (lent self.entry.reference)) self.entry.date.now self.entry.t.now) 240 out.old out.new result }
+    {
+        let mut list: ArrayVec<Broken, 96> = ArrayVec::new();
+        let mut past: Past<MOST_ACCEPTED> = Past::new();
+        let mut at: usize = 240;
+        let mut to: usize = 240;
+        let mut accepted: usize = 0;
+        for _ in 0..self.n {
+            let j = judge::judge(self.t, at, self.reference, self.date, &mut past, &mut list);
+            let end = at + j.size;
+            sets::put_set(
+                &mut out[to..],
+                &self.t[at..end],
+                self.t,
+                self.date,
+                j,
+                list.as_slice(),
+            );
+            to += 120 + 120 * j.found.kept;
+            accepted += usize::from(j.letter == Letter::A);
+            at = end;
+        }
+        Done { to, accepted }
     }
-    Ok(put_file(t, n, reference, date, name, out))
+
+    // TRANA and TRANB, the record sets and the Recap, written at the front of out; and their length.
+    fn put_file(self, name: &[u8], out: &mut [u8]) -> usize
+        requires { length (judged_file (searched (lent self.reference)) self.date.now name.now self.t.now) ≤ length out.old }
+        ensures value { result ≡ length (judged_file (searched (lent self.entry.reference)) self.entry.date.now name.now self.entry.t.now) }
+        ensures out_after { out.new ≡ laid out.old 0 (judged_file (searched (lent self.entry.reference)) self.entry.date.now name.now self.entry.t.now) }
+    {
+        text::lay(out, 0, &self.t[0..240]);
+        let done = self.write_sets(out);
+        let to = done.to;
+        let from = self.t.len() - 120;
+        let twelve = layout::through(Layout::LTrana, 60, 80, &self.t[0..120]);
+        record::put_recap(
+            out,
+            to,
+            &self.t[from..],
+            twelve,
+            done.accepted as u32,
+            self.n as u32,
+            name,
+        );
+        to + 120
+    }
+
+    // The file of a transmission that is not rejected whole. That it fits is known before a byte is written.
+    fn judge_all(self, name: &[u8], out: &mut [u8]) -> Result<usize, Refusal>
+        ensures { Given (judged_file (searched (lent self.entry.reference)) self.entry.date.now name.now self.entry.t.now) out.old out.new result }
+    {
+        if !self.has_room(out.len()) {
+            return Err(Refusal::ShortOutput);
+        }
+        Ok(self.put_file(name, out))
+    }
 }
 
 // THE ENTRY POINTS
@@ -165,7 +167,15 @@ pub fn acknowledge(
             let sequence = sequence_of(t, codes);
             rejection::reject(&sequence, codes, out)
         }
-        Way::Judge(n, reference) => judge_all(t, n, reference, date, name, out),
+        Way::Judge(n, reference) => {
+            let sound = Sound {
+                t,
+                n,
+                reference,
+                date,
+            };
+            sound.judge_all(name, out)
+        }
     }
 }
 
@@ -175,7 +185,15 @@ pub fn need(t: &[u8], pack: &[u8], date: &[u8], name: &[u8]) -> Result<usize, Re
 {
     match route::choose(t, pack, date, name)? {
         Way::Reject(codes) => Ok(rejection::size_of(codes)),
-        Way::Judge(n, reference) => Ok(file_size(t, n, reference, date)),
+        Way::Judge(n, reference) => {
+            let sound = Sound {
+                t,
+                n,
+                reference,
+                date,
+            };
+            Ok(sound.file_size())
+        }
     }
 }
 
@@ -206,7 +224,7 @@ fn code_of(a: Result<usize, Refusal>) -> u64
     number_of(a) as u64 * 4294967296 + length_of(a) as u64
 }
 
-// The same as one number, for programs in other languages: the number times 2 to the 32nd, plus the length.
+// The answer as one number: the refusal's number, or 0, times 2 to the 32nd, plus the length.
 pub fn bluffcradle_acknowledge(
     t: &[u8],
     pack: &[u8],
@@ -220,7 +238,7 @@ pub fn bluffcradle_acknowledge(
     code_of(acknowledge(t, pack, date, name, out))
 }
 
-// The need, in the same way.
+// The need as one number, in the same way.
 pub fn bluffcradle_need(t: &[u8], pack: &[u8], date: &[u8], name: &[u8]) -> u64
     ensures { result ≡ coded (need t.now pack.now date.now name.now) }
 {

@@ -10,10 +10,10 @@ returns-in_err-codes c =
     let p = err_from_is_err_and c.from_residual.result c.from_residual.ensures.1 in
     rw (p.1, p.2) (record { value = refuses _ _ _ _ _ c.choose.ensures _ (ap told c.in_err-codes.was) (length c.args.out.now); out_after = refl })
 
-pub judge_all-requires : goal.judge_all-requires
-judge_all-requires c =
+pub invariant_of-sound : goal.invariant_of-sound
+invariant_of-sound c =
     let w = ap told c.in_ok-codes.was ∙ ap (λ (w : Way). Ok (course w)) c.in-Judge.is in
-    is_begun _ _ _ _ _ c.choose.ensures _ _ w
+    record { begins = is_begun _ _ _ _ _ c.choose.ensures _ _ w }
 
 pub returns-in-Reject : goal.returns-in-Reject
 returns-in-Reject c =

@@ -1,9 +1,9 @@
 use Rattle.std.proofs.Common.{rules}
 use Rattle.ack.proofs.Tour.{need_start, need_on, need_end, tour_fits}
-use Rattle.ack.proofs.file_size.Goals as goal
+use Rattle.ack.proofs.Sound.file_size.Goals as goal
 
 pub loop-init : goal.loop-init
-loop-init c = need_start _ _ _ _ _ c.requires c.new-past.ensures
+loop-init c = need_start _ _ _ _ _ c.args.self.begins c.new-past.ensures
 
 pub overflow_mul-size : goal.overflow_mul-size
 overflow_mul-size c =

@@ -5,21 +5,21 @@ use Rattle.paper.specs.Pack.{lent}
 use Rattle.judge.specs.Judged.{searched}
 use Rattle.rejection.proofs.Laws.{refuse, give}
 use Rattle.ack.proofs.Whole.{file_size}
-use Rattle.ack.proofs.judge_all.Goals as goal
+use Rattle.ack.proofs.Sound.judge_all.Goals as goal
 
 pub returns-then-not-has_room : goal.returns-then-not-has_room
 returns-then-not-has_room c =
-    refuse _ _ _ (sym (file_size (searched (lent c.args.reference)) c.args.date.now c.args.name.now c.args.t.now c.args.n c.requires))
+    refuse _ _ _ (sym (file_size (searched (lent c.args.self.reference)) c.args.self.date.now c.args.name.now c.args.self.t.now c.args.self.n c.args.self.begins))
     (leb-false _ _ (by_false _ _ c.has_room.ensures c.if-not-has_room.true))
 
 pub put_file-requires : goal.put_file-requires
 put_file-requires c =
-    let size = file_size (searched (lent c.args.reference)) c.args.date.now c.args.name.now c.args.t.now c.args.n c.requires in
+    let size = file_size (searched (lent c.args.self.reference)) c.args.self.date.now c.args.name.now c.args.self.t.now c.args.self.n c.args.self.begins in
     let fits = leb-true _ _ (by_true _ _ c.has_room.ensures c.if-not-has_room.false) in
-    (c.requires, omega (arith, size, fits))
+    omega (arith, size, fits)
 
 pub returns : goal.returns
 returns c =
-    let size = file_size (searched (lent c.args.reference)) c.args.date.now c.args.name.now c.args.t.now c.args.n c.requires in
+    let size = file_size (searched (lent c.args.self.reference)) c.args.self.date.now c.args.name.now c.args.self.t.now c.args.self.n c.args.self.begins in
     let fits = leb-true _ _ (by_true _ _ c.has_room.ensures c.if-not-has_room.false) in
     give _ _ _ c.put_file.ensures.value _ (omega (arith, c.put_file.ensures.value, size, fits)) c.put_file.ensures.out_after

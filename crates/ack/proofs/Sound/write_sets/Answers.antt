@@ -2,10 +2,10 @@ use Rattle.std.proofs.Common.{◌≡◌, ◌≤◌, rules, ◌∙◌, arith}
 use Rattle.paper.specs.Bytes.{bit}
 use Rattle.paper.specs.Judge.{is_a}
 use Rattle.ack.proofs.Tour.{bit_le, write_start, write_fits, write_on, write_end, tour_fits}
-use Rattle.ack.proofs.write_sets.Goals as goal
+use Rattle.ack.proofs.Sound.write_sets.Goals as goal
 
 pub loop-init : goal.loop-init
-loop-init c = write_start _ _ _ _ _ _ c.requires.0 c.new-past.ensures
+loop-init c = write_start _ _ _ _ _ _ c.args.self.begins c.new-past.ensures
 
 pub overflow_add-end : goal.overflow_add-end
 overflow_add-end c =
@@ -30,14 +30,14 @@ overflow_add-to c =
 pub overflow_add-to-in-loop : goal.overflow_add-to-in-loop
 overflow_add-to-in-loop c =
     let f = tour_fits _ _ _ _ _ _ _ c.loop.invariant.tour c.loop-test.true _ c.judge-j.ensures.value in
-    let w = write_fits _ _ _ _ _ _ _ _ _ _ _ c.loop.invariant c.loop-test.true _ c.judge-j.ensures.value c.requires.1 in
+    let w = write_fits _ _ _ _ _ _ _ _ _ _ _ c.loop.invariant c.loop-test.true _ c.judge-j.ensures.value c.requires in
     search rules
 
 pub loop-preserved : goal.loop-preserved
 loop-preserved c =
     let one : c.from-accepted.result ≡ bit (is_a c.judge-j.result.letter) = search rules in
     let few : c.from-accepted.result ≤ 1 = omega (arith, one, bit_le (is_a c.judge-j.result.letter)) in
-    write_on _ _ _ _ _ _ _ _ _ _ _ c.loop.invariant c.loop-test.true _ c.judge-j.ensures.value c.requires.1 _ _ _ _
+    write_on _ _ _ _ _ _ _ _ _ _ _ c.loop.invariant c.loop-test.true _ c.judge-j.ensures.value c.requires _ _ _ _
     c.judge-j.ensures.past_becomes (c.as_slice.ensures.value ∙ c.judge-j.ensures.list_after) one few c.put_set.ensures
 
 pub returns : goal.returns

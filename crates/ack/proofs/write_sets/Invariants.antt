@@ -1,8 +1,0 @@
-use Rattle.paper.specs.Pack.{lent}
-use Rattle.judge.specs.Judged.{searched}
-use Rattle.judge.specs.Seen.{trail}
-use Rattle.ack.proofs.Tour.{Writing}
-use Rattle.ack.proofs.write_sets.Given as goal
-
-abbrev pub invariant-loop : goal.invariant-loop
-invariant-loop l = Writing (searched (lent l.reference)) l.date l.t l.n l.initial.out (trail l.past) l.at l.to l.accepted l.counter l.out
