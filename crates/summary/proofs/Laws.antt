@@ -1,4 +1,4 @@
--- The fields in reserve, where the bytes that hold them are blank: none of their rules is broken. Assumes nothing.
+-- What a summary breaks; the fields in reserve, where the bytes that hold them are blank: none of their rules is broken. Assumes nothing.
 use Prim.Native.Nat.{ℕ, zero, suc, ◌+◌, ◌*◌, ◌/◌, ◌%◌, ◌^◌, ◌≤◌, ◌<◌}
 use mathlib.Core.Bool.{Bool, true, false, ◌&&◌}
 use mathlib.Core.List.{List, [], ◌∷◌}
@@ -10,12 +10,18 @@ use lib.ListN.{length, take, drop}
 use lib.Seq.{take-nil, drop-nil}
 use borrow.Author.Tests.{eqb-true, leb-true}
 use Rattle.std.proofs.lemmas.Nat.{mul-mod_first}
+use Rattle.paper.specs.declared.Kind.TheVariants.{Summary}
 use Rattle.paper.specs.declared.Layout.TheVariants.{LSummary}
 use Rattle.paper.specs.Bytes.{Bytes, every, part, is_space, blank}
 use Rattle.paper.specs.Layouts.{entry, field, through, summary}
-use Rattle.paper.specs.Conditions.{summary_holds, summary_rules, pick}
+use Rattle.paper.specs.Conditions.{View, holds, summary_holds, summary_rules, pick}
 use Rattle.paper.proofs.Laws.{both}
 use Rattle.words.specs.Sets.{bit_on, bits_on}
+use Rattle.summary.specs.Breaks.{breaks}
+
+-- a summary breaks the rules that the paper holds of it
+pub breaks_held : (v : View) (rule : ℕ) → breaks v.sight.form v.own rule ≡ holds Summary v rule
+breaks_held v rule = refl
 
 -- what every byte of a part passes, every byte of a part of it does
 part_every : (p : ℕ → Bool) (a w b v : ℕ) (s : Bytes) → a ≤ b → b + v ≤ a + w → every p (part a w s) ≡ true → every p (part b v s) ≡ true
@@ -36,10 +42,7 @@ inside a z rule =
     eqb (rule % 10000) 14
     && (leb a (entry LSummary (rule / 10000)).start && leb ((entry LSummary (rule / 10000)).start + (entry LSummary (rule / 10000)).width) z)
 
-abbrev breaks : Bytes → ℕ → Bool
-breaks own rule = summary_holds (rule / 10000) (rule % 10000) [] own
-
-inside_kept : (own : Bytes) (a w : ℕ) → blank (part a w own) ≡ true → (rule : ℕ) → inside a (a + w) rule ≡ true → breaks own rule ≡ false
+inside_kept : (own : Bytes) (a w : ℕ) → blank (part a w own) ≡ true → (rule : ℕ) → inside a (a + w) rule ≡ true → breaks [] own rule ≡ false
 unfolding summary_holds pick field
 inside_kept own a w h rule e =
     let f = entry LSummary (rule / 10000) in
@@ -68,16 +71,16 @@ module _ (p q : ℕ → Bool) (kept : (x : ℕ) → q x ≡ true → p x ≡ fal
 
 -- the rules on 0050 to 0080 and on 0100 to 0220 before a set, where t, the bytes that hold the fields, is blank
 module _ (own t : Bytes) (set later : ℕ) (h : blank t ≡ true) (l : set < 18446744073709551616) (e : set ≡ later) where
-  pub kept_50 : t ≡ through LSummary 50 80 own → set * 128 % 18446744073709551616 ≡ bits_on (breaks own) (take 7 (drop 6 summary_rules)) later
+  pub kept_50 : t ≡ through LSummary 50 80 own → set * 128 % 18446744073709551616 ≡ bits_on (breaks [] own) (take 7 (drop 6 summary_rules)) later
   unfolding summary_rules through entry summary
   kept_50 u =
       let b : blank (part 95 15 own) ≡ true = ap blank (sym u) ∙ h in
-      sym (bits_kept (breaks own) (inside 95 110) (inside_kept own 95 15 b) (take 7 (drop 6 summary_rules)) set refl l)
-      ∙ ap (bits_on (breaks own) (take 7 (drop 6 summary_rules))) e
+      sym (bits_kept (breaks [] own) (inside 95 110) (inside_kept own 95 15 b) (take 7 (drop 6 summary_rules)) set refl l)
+      ∙ ap (bits_on (breaks [] own) (take 7 (drop 6 summary_rules))) e
 
-  pub kept_100 : t ≡ through LSummary 100 220 own → set * 2097152 % 18446744073709551616 ≡ bits_on (breaks own) (take 21 (drop 14 summary_rules)) later
+  pub kept_100 : t ≡ through LSummary 100 220 own → set * 2097152 % 18446744073709551616 ≡ bits_on (breaks [] own) (take 21 (drop 14 summary_rules)) later
   unfolding summary_rules through entry summary
   kept_100 u =
       let b : blank (part 114 160 own) ≡ true = ap blank (sym u) ∙ h in
-      sym (bits_kept (breaks own) (inside 114 274) (inside_kept own 114 160 b) (take 21 (drop 14 summary_rules)) set refl l)
-      ∙ ap (bits_on (breaks own) (take 21 (drop 14 summary_rules))) e
+      sym (bits_kept (breaks [] own) (inside 114 274) (inside_kept own 114 160 b) (take 21 (drop 14 summary_rules)) set refl l)
+      ∙ ap (bits_on (breaks [] own) (take 21 (drop 14 summary_rules))) e
