@@ -1,14 +1,20 @@
--- What is asked of a field, and that it is blank. Assumes nothing.
+-- What an authentication breaks; what is asked of a field, and that it is blank. Assumes nothing.
 use Prim.Native.Nat.{ℕ}
 use mathlib.Core.Path.{◌≡◌, refl}
 use mathlib.Core.Bool.{Bool, true, false, not, ◌&&◌}
 use lib.Dec.{ltb}
 use Rattle.paper.specs.declared.Facts.{Facts}
+use Rattle.paper.specs.declared.Kind.TheVariants.{Auth}
 use Rattle.paper.specs.declared.Layout.TheVariants.{L4868, LAuth}
 use Rattle.paper.specs.Bytes.{Bytes, blank, present}
 use Rattle.paper.specs.Layouts.{field}
-use Rattle.paper.specs.Conditions.{typed, spouse_only, self_only, missing, missing_spouse}
+use Rattle.paper.specs.Conditions.{View, holds, typed, spouse_only, self_only, missing, missing_spouse}
 use Rattle.auth.specs.Asked.{asks_own, asks_spouse}
+use Rattle.auth.specs.Breaks.{breaks}
+
+-- an authentication breaks the rules that the paper holds of it
+pub breaks_held : (v : View) (rule : ℕ) → breaks v.sight.form v.own v.sight.payer v.sight.spouse v.sight.whole v.aths rule ≡ holds Auth v rule
+breaks_held v rule = refl
 
 later_first : (x y z : Bool) → (x && y && z) ≡ (x && z && y)
 later_first true true true = refl

@@ -1,12 +1,13 @@
 // The rules of an authentication: which of them a record breaks.
 #![tactic(auto)]
 
-ghost use Rattle.std.specs.Prelude.{◌≡◌, not, ◌&&◌, cond, [], ◌∷◌, ℕ, ◌/◌, ◌%◌, eqb, length, map};
+ghost use Rattle.std.specs.Prelude.{◌≡◌, not, ◌&&◌, cond, [], ◌∷◌, eqb, length, map};
 ghost use Rattle.paper.specs.Bytes.{same, blank, present};
-ghost use Rattle.paper.specs.Conditions.{not_date, not_digits, not_pin, income_in, wrong_auth, typed, spouse_only, self_only, auth_holds, auth_rules};
+ghost use Rattle.paper.specs.Conditions.{not_date, not_digits, not_pin, income_in, wrong_auth, typed, spouse_only, self_only, auth_rules};
 ghost use Rattle.words.specs.Tables.{rule_text};
 ghost use Rattle.words.specs.Sets.{bit_on, bits_on, bits_by};
-ghost use Rattle.auth.specs.Asked.{asked_of, field_holds};
+ghost use Rattle.auth.specs.Asked.{asked_of};
+ghost use Rattle.auth.specs.Breaks.{breaks, breaks_asked};
 
 use layout::field_of;
 use paper::Facts;
@@ -85,7 +86,7 @@ fn asked_of(form: &[u8], own: &[u8], whole: Facts) -> Asked
 // The rules on the head, before later ones.
 #[tactic(auto, unfolding(paper::specs::Conditions::auth_holds, paper::specs::Conditions::pick, paper::specs::Conditions::auth0010, paper::specs::Conditions::other_number))]
 fn of_head(form: &[u8], own: &[u8], whole: Facts, before: usize, later: u64) -> u64
-    ensures { result ≡ bits_on (λ (rule : ℕ). auth_holds (rule / 10000) (rule % 10000) form.now own.now [] [] whole before) (30 ∷ 44 ∷ 45 ∷ 30004 ∷ 80010 ∷ []) later }
+    ensures { result ≡ bits_on (breaks form.now own.now [] [] whole before) (30 ∷ 44 ∷ 45 ∷ 30004 ∷ 80010 ∷ []) later }
 {
     let number = field_of(LAuth, 3, own);
     let set = words::and_rule(!words::one_of(b"PSO", field_of(LAuth, 8, own)), later);
@@ -125,7 +126,7 @@ fn and_income(f: &[u8], line: &[u8], select: bool, s: bool, o: bool, later: u64)
 // The rules on the taxpayer's fields, 0010 to 0035, before later ones.
 #[tactic(auto, unfolding(crate::specs::Asked::field_holds, paper::specs::Conditions::pick, paper::specs::Conditions::auth0010), using(words::proofs::Told::not_date_by, words::proofs::Told::not_pin_by))]
 fn of_payer(own: &[u8], line: &[u8], asked: Asked, later: u64) -> u64
-    ensures { result ≡ bits_on (λ (rule : ℕ). field_holds asked own.now line.now (rule / 10000) (rule % 10000)) (100010 ∷ 100670 ∷ 100681 ∷ 200010 ∷ 200670 ∷ 200679 ∷ 200681 ∷ 350010 ∷ 350670 ∷ 350681 ∷ 350697 ∷ []) later }
+    ensures { result ≡ bits_on (breaks_asked asked own.now line.now) (100010 ∷ 100670 ∷ 100681 ∷ 200010 ∷ 200670 ∷ 200679 ∷ 200681 ∷ 350010 ∷ 350670 ∷ 350681 ∷ 350697 ∷ []) later }
 {
     let (s, o) = (asked.s, asked.o);
     let birth = field_of(LAuth, 10, own);
@@ -142,7 +143,7 @@ fn of_payer(own: &[u8], line: &[u8], asked: Asked, later: u64) -> u64
 // The rules on the spouse's fields, 0040 to 0065, before later ones.
 #[tactic(auto, unfolding(crate::specs::Asked::field_holds, paper::specs::Conditions::pick, paper::specs::Conditions::auth0010), using(words::proofs::Told::not_date_by, words::proofs::Told::not_pin_by))]
 fn of_spouse(own: &[u8], line: &[u8], asked: Asked, later: u64) -> u64
-    ensures { result ≡ bits_on (λ (rule : ℕ). field_holds asked own.now line.now (rule / 10000) (rule % 10000)) (400010 ∷ 400671 ∷ 400682 ∷ 500010 ∷ 500671 ∷ 500680 ∷ 500682 ∷ 650010 ∷ 650671 ∷ 650682 ∷ []) later }
+    ensures { result ≡ bits_on (breaks_asked asked own.now line.now) (400010 ∷ 400671 ∷ 400682 ∷ 500010 ∷ 500671 ∷ 500680 ∷ 500682 ∷ 650010 ∷ 650671 ∷ 650682 ∷ []) later }
 {
     let (s, o) = (asked.spouse_s, asked.spouse_o);
     let birth = field_of(LAuth, 40, own);
@@ -168,7 +169,7 @@ fn and_missing(is_blank: bool, asked: Asked, later: u64) -> u64
 // The rules on the fields of both, 0070 to 0080, before later ones.
 #[tactic(auto, unfolding(crate::specs::Asked::field_holds, paper::specs::Conditions::pick, paper::specs::Conditions::auth0010), using(words::proofs::Told::not_date_by))]
 fn of_both(own: &[u8], asked: Asked, later: u64) -> u64
-    ensures { result ≡ bits_on (λ (rule : ℕ). field_holds asked own.now [] (rule / 10000) (rule % 10000)) (700010 ∷ 700670 ∷ 700671 ∷ 700681 ∷ 700682 ∷ 700697 ∷ 750326 ∷ 750670 ∷ 750671 ∷ 750681 ∷ 750682 ∷ 750697 ∷ 800010 ∷ 800670 ∷ 800671 ∷ 800681 ∷ 800682 ∷ []) later }
+    ensures { result ≡ bits_on (breaks_asked asked own.now []) (700010 ∷ 700670 ∷ 700671 ∷ 700681 ∷ 700682 ∷ 700697 ∷ 750326 ∷ 750670 ∷ 750671 ∷ 750681 ∷ 750682 ∷ 750697 ∷ 800010 ∷ 800670 ∷ 800671 ∷ 800681 ∷ 800682 ∷ []) later }
 {
     let code = field_of(LAuth, 80, own);
     let set = and_missing(text::blank(code), asked, later);
@@ -199,7 +200,7 @@ pub fn broken(
     whole: Facts,
     before: usize,
 ) -> u64
-    ensures { result ≡ cond (eqb (length form.now) 384 && eqb (length own.now) 340) (bits_by (λ (rule : ℕ). auth_holds (rule / 10000) (rule % 10000) form.now own.now payer.now spouse.now whole before) auth_rules) 0 }
+    ensures { result ≡ cond (eqb (length form.now) 384 && eqb (length own.now) 340) (bits_by (breaks form.now own.now payer.now spouse.now whole before) auth_rules) 0 }
 {
     if form.len() != 384 || own.len() != 340 {
         return 0;

@@ -1,13 +1,14 @@
 // The rules of a summary: which of them a record breaks.
 #![tactic(auto)]
 
-ghost use Rattle.std.specs.Prelude.{◌≡◌, ◌&&◌, cond, [], ◌∷◌, ℕ, ◌/◌, ◌%◌, eqb, length, map};
+ghost use Rattle.std.specs.Prelude.{◌≡◌, ◌<◌, ◌&&◌, true, cond, [], ◌∷◌, eqb, length, map};
 ghost use Rattle.paper.specs.declared.Layout.TheVariants.{LSummary};
-ghost use Rattle.paper.specs.Bytes.{present};
+ghost use Rattle.paper.specs.Bytes.{every, present};
 ghost use Rattle.paper.specs.Layouts.{field};
 ghost use Rattle.words.specs.Tables.{rule_text};
 ghost use Rattle.words.specs.Sets.{bits_on, bits_by};
-ghost use Rattle.paper.specs.Conditions.{summary_fillers, wrong_year, not_time, summary_holds, summary_rules};
+ghost use Rattle.paper.specs.Conditions.{summary_fillers, wrong_year, not_time, summary_rules};
+ghost use Rattle.summary.specs.Breaks.{breaks, is_within};
 
 use layout::{field_of, through};
 use paper::Layout::{L4868, LSummary};
@@ -39,7 +40,7 @@ fn not_time(f: &[u8]) -> bool
 // The rules on the head, 0010, 0020 and 0040, before later ones.
 #[tactic(auto, unfolding(paper::specs::Conditions::summary_holds, paper::specs::Conditions::pick, paper::specs::Conditions::summary0010, paper::specs::Conditions::wrong_originator, paper::specs::Conditions::other_number))]
 fn of_head(form: &[u8], own: &[u8], later: u64) -> u64
-    ensures { result ≡ bits_on (λ (rule : ℕ). summary_holds (rule / 10000) (rule % 10000) form.now own.now) (45 ∷ 20004 ∷ 100027 ∷ 200010 ∷ 200027 ∷ 400010 ∷ []) later }
+    ensures { result ≡ bits_on (breaks form.now own.now) (45 ∷ 20004 ∷ 100027 ∷ 200010 ∷ 200027 ∷ 400010 ∷ []) later }
 {
     let number = field_of(LSummary, 2, own);
     let originator = field_of(LSummary, 20, own);
@@ -66,34 +67,42 @@ fn and_reserves(fields: &[u32], own: &[u8], later: u64) -> u64
     })
 }
 
+// The same where the fields stand in the run from one field to another, which is looked at first.
+#[inline(always)]
+fn and_run(fields: &[u32], from: u32, to: u32, own: &[u8], later: u64) -> u64
+    requires is_few { length fields.now < 64 }
+    requires is_run { every (is_within from to) fields.now ≡ true }
+    ensures { result ≡ bits_on (λ n. present (field LSummary n own.now)) fields.now later }
+{
+    if text::blank(through(LSummary, from, to, own)) {
+        // None of them: the set moves by as many places, and what would pass the 64th is lost.
+        return later << fields.len();
+    }
+    and_reserves(fields, own, later)
+}
+
 // The rules on 0050 to 0090, before later ones.
-#[tactic(auto, unfolding(paper::specs::Conditions::summary_holds, paper::specs::Conditions::pick, paper::specs::Conditions::summary0010, paper::specs::Conditions::summary_rules), using(crate::proofs::Laws::kept_50))]
+#[tactic(auto, unfolding(paper::specs::Conditions::summary_holds, paper::specs::Conditions::pick, paper::specs::Conditions::summary0010, paper::specs::Layouts::entry, paper::specs::Layouts::summary))]
 fn of_50_to_90(own: &[u8], later: u64) -> u64
-    ensures { result ≡ bits_on (λ (rule : ℕ). summary_holds (rule / 10000) (rule % 10000) [] own.now) (500014 ∷ 550014 ∷ 600014 ∷ 630014 ∷ 700014 ∷ 750014 ∷ 800014 ∷ 900010 ∷ []) later }
+    ensures { result ≡ bits_on (breaks [] own.now) (500014 ∷ 550014 ∷ 600014 ∷ 630014 ∷ 700014 ∷ 750014 ∷ 800014 ∷ 900010 ∷ []) later }
 {
     let set = words::and_rule(!kinds::digits(field_of(LSummary, 90, own)), later);
-    if text::blank(through(LSummary, 50, 80, own)) {
-        // None of the other seven: the set moves by as many places.
-        return set << 7;
-    }
-    and_reserves(&[50, 55, 60, 63, 70, 75, 80], own, set)
+    and_run(&[50, 55, 60, 63, 70, 75, 80], 50, 80, own, set)
 }
 
 // The rules on 0100 to 0250, all in reserve, before later ones.
-#[tactic(auto, unfolding(paper::specs::Conditions::summary_holds, paper::specs::Conditions::pick, paper::specs::Conditions::summary_rules), using(crate::proofs::Laws::kept_100))]
+#[tactic(auto, unfolding(paper::specs::Conditions::summary_holds, paper::specs::Conditions::pick, paper::specs::Layouts::entry, paper::specs::Layouts::summary))]
 fn of_reserves(own: &[u8], later: u64) -> u64
-    ensures { result ≡ bits_on (λ (rule : ℕ). summary_holds (rule / 10000) (rule % 10000) [] own.now) (1000014 ∷ 1100014 ∷ 1200014 ∷ 1300014 ∷ 1330014 ∷ 1350014 ∷ 1400014 ∷ 1500014 ∷ 1700014 ∷ 1800014 ∷ 1850014 ∷ 1880014 ∷ 1890014 ∷ 1900014 ∷ 1950014 ∷ 2000014 ∷ 2100014 ∷ 2150014 ∷ 2170014 ∷ 2190014 ∷ 2200014 ∷ 2500014 ∷ []) later }
+    ensures { result ≡ bits_on (breaks [] own.now) (1000014 ∷ 1100014 ∷ 1200014 ∷ 1300014 ∷ 1330014 ∷ 1350014 ∷ 1400014 ∷ 1500014 ∷ 1700014 ∷ 1800014 ∷ 1850014 ∷ 1880014 ∷ 1890014 ∷ 1900014 ∷ 1950014 ∷ 2000014 ∷ 2100014 ∷ 2150014 ∷ 2170014 ∷ 2190014 ∷ 2200014 ∷ 2500014 ∷ []) later }
 {
     let set = words::and_rule(!text::blank(field_of(LSummary, 250, own)), later);
-    if text::blank(through(LSummary, 100, 220, own)) {
-        // None of the other 21: the set moves by as many places, and what would pass the 64th is lost.
-        return set << 21;
-    }
-    and_reserves(
+    and_run(
         &[
             100, 110, 120, 130, 133, 135, 140, 150, 170, 180, 185, 188, 189, 190, 195, 200, 210,
             215, 217, 219, 220,
         ],
+        100,
+        220,
         own,
         set,
     )
@@ -102,7 +111,7 @@ fn of_reserves(own: &[u8], later: u64) -> u64
 // The rules on 0260 to 0290, before later ones.
 #[tactic(auto, unfolding(paper::specs::Conditions::summary_holds, paper::specs::Conditions::pick, paper::specs::Conditions::summary0010, paper::specs::Conditions::missing_mark), using(words::proofs::Told::not_date_by))]
 fn of_260_to_290(own: &[u8], later: u64) -> u64
-    ensures { result ≡ bits_on (λ (rule : ℕ). summary_holds (rule / 10000) (rule % 10000) [] own.now) (2600010 ∷ 2600490 ∷ 2600491 ∷ 2700010 ∷ 2700491 ∷ 2800010 ∷ 2800491 ∷ 2900014 ∷ []) later }
+    ensures { result ≡ bits_on (breaks [] own.now) (2600010 ∷ 2600490 ∷ 2600491 ∷ 2700010 ∷ 2700491 ∷ 2800010 ∷ 2800491 ∷ 2900014 ∷ []) later }
 {
     let day = field_of(LSummary, 260, own);
     let time = field_of(LSummary, 270, own);
@@ -125,7 +134,7 @@ fn of_260_to_290(own: &[u8], later: u64) -> u64
 // The set of the rules that a summary breaks, where both records have their length.
 #[tactic(auto, unfolding(paper::specs::Conditions::summary_rules, paper::specs::Conditions::summary_holds, paper::specs::Conditions::pick))]
 pub fn broken(form: &[u8], own: &[u8]) -> u64
-    ensures { result ≡ cond (eqb (length form.now) 384 && eqb (length own.now) 314) (bits_by (λ (rule : ℕ). summary_holds (rule / 10000) (rule % 10000) form.now own.now) summary_rules) 0 }
+    ensures { result ≡ cond (eqb (length form.now) 384 && eqb (length own.now) 314) (bits_by (breaks form.now own.now) summary_rules) 0 }
 {
     if form.len() != 384 || own.len() != 314 {
         return 0;
