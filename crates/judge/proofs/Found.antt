@@ -68,9 +68,6 @@ module _ (banks form payer spouse : Bytes) (whole : Facts) (t : Bytes) (w found 
     goes : goes_on (kind_of r) ≡ true
     goes = (both (goes_on (kind_of r)) (every (λ (x : Bytes). goes_on (kind_of x)) (own_in u)) (ap (every (λ (x : Bytes). goes_on (kind_of x))) (sym next) ∙ own_goes left)).0
 
-    pub ran_fits : to + length r ≤ length t
-    ran_fits = omega (arith, i.fits, ap sizes next)
-
     module _ (bank : Bytes) (set : ℕ) (nform : length form ≡ 384) (eb : bank ≡ bank_for banks k r) (es : set ≡ others_of k form r payer spouse bank whole b) where
       set_is : set ≡ set_in (kind_of r) (view S r (bank_for banks (kind_of r) r) b.pays b.aths)
       set_is =

@@ -60,10 +60,6 @@ added_append f xs ys = λ i. record {
   ath = ((or_assoc f.ath (any on_auth xs) (any on_auth ys) ∙ ap (λ (b : Bool). f.ath || b) (sym (any_append on_auth xs ys))) i);
 }
 
-pub added_few : (f : Held) (l : List Broken) → length (added f l).list ≤ 96
-unfolding added listed
-added_few f l = omega (arith, length-take 96 (f.list ++ l))
-
 -- the numbers, and the list where they are held
 pub held_counted : (x l : List Broken) (f : Findings) → held x f ≡ kept_of l → f ≡ counted l
 held_counted x l f e = λ i. record { kept = (e i).kept; ath = (e i).ath }
