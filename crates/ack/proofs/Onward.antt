@@ -28,8 +28,9 @@ use Rattle.walk.specs.declared.Extent.{Extent}
 use Rattle.walk.specs.Parts.{doc_here, extent_of, Passed}
 use Rattle.walk.proofs.Docs.{passed}
 use Rattle.walk.proofs.Facts.{main_here}
+use Rattle.judge.specs.declared.Past.{Past}
 use Rattle.judge.specs.Judged.{broke_from, broke_in, judgment_of}
-use Rattle.judge.specs.Seen.{Trail, seen_by, next_past, past_after}
+use Rattle.judge.specs.Seen.{seen_by, next_past, next_row, past_after, row_after}
 use Rattle.judge.specs.Kept.{total, listed, counted}
 use Rattle.judge.proofs.Seen.{form_wide, leaves, next_few}
 use Rattle.judge.proofs.Found.{Standing, found_of, total_found, auth_found, rows_found}
@@ -69,10 +70,10 @@ unpaid Recap o = refl
 unpaid Stray o = refl
 
 -- ONE DOCUMENT ON: j is what is said of the one at a place
-module _ (L : Lines) (date t : Bytes) (at : ℕ) (p : Trail) (g : Going t at p) (more : 0 < length (docs_of (records (drop at t))))
-    (j : Judgment) (ej : j ≡ judgment_of at (here L date t at p)) where
+module _ (L : Lines) (date t : Bytes) (at : ℕ) (p : Past) (row : List ℕ) (g : Going t at p row) (more : 0 < length (docs_of (records (drop at t))))
+    (j : Judgment) (ej : j ≡ judgment_of at (here L date t at p row)) where
   abbrev T : Turn
-  T = here L date t at p
+  T = here L date t at p row
 
   abbrev s : Bytes
   s = drop at t
@@ -197,41 +198,42 @@ module _ (L : Lines) (date t : Bytes) (at : ℕ) (p : Trail) (g : Going t at p) 
   -- WHAT IT LEAVES
 
   digits_90 : is_a (letter_of T) ≡ true → digits (field L4868 90 d.main) ≡ true
-  digits_90 h = accepted_digits date (seen_by p) L s moved.opened h
+  digits_90 h = accepted_digits date (seen_by p row) L s moved.opened h
 
-  room : length p.accepted < 762
-  room = omega (arith, g.space, g.short, moved.stands.within, moved.some)
+  room : p.n < length row
+  room = omega (arith, g.space, g.short, g.whole, moved.stands.within, moved.some)
 
-  left : seen_by (past_after 762 T p) ≡ after T
+  left : seen_by (past_after T p row) (row_after T p row) ≡ after T
   left = by (known d) refl
     where
       by : (b : Bool) → known d ≡ b
-          → seen_by (cond b (next_past 762 (identity_of d.main) (letter_of T) p) p) ≡ cond b (after_known (seen d) (is_a (letter_of T)) (seen_by p)) (seen_by p)
-      by true e = let w = form_wide d.main (form_size e) in leaves 762 d.main (letter_of T) p room w.0 w.1 w.2 digits_90
+          → seen_by (cond b (next_past (identity_of d.main) (letter_of T) p row) p) (cond b (next_row (identity_of d.main) (letter_of T) p row) row) ≡ cond b (after_known (seen d) (is_a (letter_of T)) (seen_by p row)) (seen_by p row)
+      by true e = let w = form_wide d.main (form_size e) in leaves d.main (letter_of T) p row room w.0 w.1 w.2 digits_90
       by false e = refl
 
-  few : length (past_after 762 T p).accepted ≤ length p.accepted + cond (is_a (letter_of T)) 1 0
+  few : ((past_after T p row).n ≤ p.n + cond (is_a (letter_of T)) 1 0) × (length (row_after T p row) ≡ length row)
   few = by (known d)
     where
-      by : (b : Bool) → length (cond b (next_past 762 (identity_of d.main) (letter_of T) p) p).accepted ≤ length p.accepted + cond (is_a (letter_of T)) 1 0
-      by true = next_few 762 (identity_of d.main) (letter_of T) p
-      by false = omega arith
+      by : (b : Bool) → ((cond b (next_past (identity_of d.main) (letter_of T) p row) p).n ≤ p.n + cond (is_a (letter_of T)) 1 0) × (length (cond b (next_row (identity_of d.main) (letter_of T) p row) row) ≡ length row)
+      by true = next_few (identity_of d.main) (letter_of T) p row
+      by false = (omega arith, refl)
 
-  -- next is what it leaves
-  module _ (next : Trail) (en : next ≡ past_after 762 T p) where
-    spaced : (b : Bool) → is_a (letter_of T) ≡ b → length next.accepted ≤ length p.accepted + cond b 1 0 → length next.accepted * 86 ≤ at + size
-    spaced true e f = omega (arith, g.space, sized, accepted_long date (seen_by p) L s doc moved.opened e refl)
+  -- next is what it leaves, and row' the row after it
+  module _ (next : Past) (row' : List ℕ) (en : next ≡ past_after T p row) (er : row' ≡ row_after T p row) where
+    spaced : (b : Bool) → is_a (letter_of T) ≡ b → next.n ≤ p.n + cond b 1 0 → next.n * 86 ≤ at + size
+    spaced true e f = omega (arith, g.space, sized, accepted_long date (seen_by p row) L s doc moved.opened e refl)
     spaced false e f = omega (arith, g.space)
 
-    pub going_on : Going t (at + size) next
+    pub going_on : Going t (at + size) next row'
     going_on = record {
       short = g.short;
       stands = moved.stands;
-      space = spaced (is_a (letter_of T)) refl (subst (λ (x : Trail). length x.accepted ≤ length p.accepted + cond (is_a (letter_of T)) 1 0) (sym en) few);
+      space = spaced (is_a (letter_of T)) refl (subst (λ (x : Past). x.n ≤ p.n + cond (is_a (letter_of T)) 1 0) (sym en) few.0);
+      whole = ap length er ∙ few.1 ∙ g.whole;
     }
 
-    pub turn_here : ahead L date t at p ≡ T ∷ ahead L date t (at + size) next
+    pub turn_here : ahead L date t at p row ≡ T ∷ ahead L date t (at + size) next row'
     unfolding ahead
     turn_here =
-        ap (λ (ds : List Doc). turns date (seen_by p) (map (asked L) ds)) moved.docs
-        ∙ ap (λ (b : Before). T ∷ turns date b (map (asked L) (docs_of (records (drop (at + size) t))))) (sym left ∙ ap seen_by (sym en))
+        ap (λ (ds : List Doc). turns date (seen_by p row) (map (asked L) ds)) moved.docs
+        ∙ ap (λ (b : Before). T ∷ turns date b (map (asked L) (docs_of (records (drop (at + size) t))))) (sym left ∙ (λ i. seen_by (sym en i) (sym er i)))

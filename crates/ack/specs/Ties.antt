@@ -6,7 +6,8 @@ use Rattle.paper.specs.Walk.{records, sound, parsed_of, docs_of}
 use Rattle.paper.specs.Judge.{Turn, turn, turns, asked}
 use Rattle.paper.specs.File.{set_of, accepted_in, judged, turns_of, file_from}
 use Rattle.walk.specs.Parts.{doc_here, Stands}
-use Rattle.judge.specs.Seen.{Trail, seen_by}
+use Rattle.judge.specs.declared.Past.{Past}
+use Rattle.judge.specs.Seen.{seen_by}
 use Rattle.ack.specs.declared.Done.{Done}
 
 -- a sound transmission of n documents
@@ -29,18 +30,19 @@ unfoldable pub judged_file : Lines → Bytes → Bytes → Bytes → Bytes
 judged_file L date name t = file_from name (judged (parsed_of (records t)) (turns_in L date t))
 
 -- the first document from a place on, in its turn
-abbrev pub here : Lines → Bytes → Bytes → ℕ → Trail → Turn
-here L date t at p = turn date (seen_by p) (asked L (doc_here (drop at t)))
+abbrev pub here : Lines → Bytes → Bytes → ℕ → Past → List ℕ → Turn
+here L date t at p row = turn date (seen_by p row) (asked L (doc_here (drop at t)))
 
 -- the turns from a place on
-unfoldable pub ahead : Lines → Bytes → Bytes → ℕ → Trail → List Turn
-ahead L date t at p = turns date (seen_by p) (map (asked L) (docs_of (records (drop at t))))
+unfoldable pub ahead : Lines → Bytes → Bytes → ℕ → Past → List ℕ → List Turn
+ahead L date t at p row = turns date (seen_by p row) (map (asked L) (docs_of (records (drop at t))))
 
 -- at a document's start, or at RECAP, with the numbers of the accepted documents before it; such a document has 86 bytes or more
-pub record Going (t : Bytes) (at : ℕ) (p : Trail) : Type 0 where
+pub record Going (t : Bytes) (at : ℕ) (p : Past) (row : List ℕ) : Type 0 where
   pub short : length t ≤ 65536
   pub stands : Stands t at
-  pub space : length p.accepted * 86 ≤ at
+  pub space : p.n * 86 ≤ at
+  pub whole : length row ≡ 762
 
 -- the record sets of the turns written into out from a place on, and how many are accepted
 pub record Written (ts : List Turn) (from : ℕ) (out out' : Bytes) (d : Done) : Type 0 where

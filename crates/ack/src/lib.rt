@@ -54,11 +54,20 @@ impl Sound<'_> {
         ensures { result ≡ 360 + length (sets_in (turns_in (searched (lent self.entry.reference)) self.entry.date.now self.entry.t.now)) }
     {
         let mut list: ArrayVec<Broken, 96> = ArrayVec::new();
-        let mut past: Past<MOST_ACCEPTED> = Past::new();
+        let mut row = [0u32; MOST_ACCEPTED];
+        let mut past = Past::new();
         let mut at: usize = 240;
         let mut size: usize = 0;
         for _ in 0..self.n {
-            let j = judge::judge(self.t, at, self.reference, self.date, &mut past, &mut list);
+            let j = judge::judge(
+                self.t,
+                at,
+                self.reference,
+                self.date,
+                &mut past,
+                &mut row,
+                &mut list,
+            );
             size += 120 + 120 * j.found.kept;
             at += j.size;
         }
@@ -81,12 +90,21 @@ impl Sound<'_> {
         ensures { Written (turns_in (searched (lent self.entry.reference)) self.entry.date.now self.entry.t.now) 240 out.old out.new result }
     {
         let mut list: ArrayVec<Broken, 96> = ArrayVec::new();
-        let mut past: Past<MOST_ACCEPTED> = Past::new();
+        let mut row = [0u32; MOST_ACCEPTED];
+        let mut past = Past::new();
         let mut at: usize = 240;
         let mut to: usize = 240;
         let mut accepted: usize = 0;
         for _ in 0..self.n {
-            let j = judge::judge(self.t, at, self.reference, self.date, &mut past, &mut list);
+            let j = judge::judge(
+                self.t,
+                at,
+                self.reference,
+                self.date,
+                &mut past,
+                &mut row,
+                &mut list,
+            );
             let end = at + j.size;
             sets::put_set(
                 &mut out[to..],
@@ -109,7 +127,10 @@ impl Sound<'_> {
         ensures value { result ≡ length (judged_file (searched (lent self.entry.reference)) self.entry.date.now name.now self.entry.t.now) }
         ensures out_after { out.new ≡ laid out.old 0 (judged_file (searched (lent self.entry.reference)) self.entry.date.now name.now self.entry.t.now) }
     {
-        text::lay(out, 0, &self.t[0..240]);
+        // By way of an array: to copy from one lent slice to another takes `memmove`, which the library for C asks for nowhere else.
+        let mut head = [0u8; 240];
+        head.copy_from_slice(&self.t[0..240]);
+        text::lay(out, 0, &head);
         let done = self.write_sets(out);
         let to = done.to;
         let from = self.t.len() - 120;

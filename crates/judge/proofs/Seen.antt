@@ -3,13 +3,14 @@ use mathlib.Core.Path.{◌≡◌, refl, sym, ap, ◌∙◌}
 use mathlib.Core.Bool.{Bool, true, false, cond, ◌&&◌, ◌||◌}
 use Rattle.std.proofs.Common.{Option, None, Some}
 use mathlib.Core.List.{List, [], ◌∷◌, ◌++◌, map, map-append}
-use Prim.Native.Nat.{ℕ, ◌+◌, ◌%◌, ◌≤◌, ◌<◌}
-use native.Mathlib.Nat.{mod-lt}
+use Prim.Native.Nat.{ℕ, ◌+◌, ◌%◌, ◌≤◌, ◌<◌, min}
+use native.Mathlib.Nat.{mod-lt, mod-eq_of_lt}
+use native.Mathlib.Numerals.{add-one}
 use native.Mathlib.Omega.{arith}
 use borrow.Author.Tests.{lt-ltb, ne_eqb, ltb-true, ltb-false}
 use lib.Dec.{eqb, ltb, lit<}
-use lib.ListN.{length, drop, length-take, length-drop, length-append}
-use lib.Seq.{take_all}
+use lib.ListN.{length, take, drop, set, length-set, length-take, length-drop}
+use lib.Seq.{take_all, take-suc-set}
 use Rattle.paper.specs.declared.Identity.{Identity}
 use Rattle.paper.specs.declared.Layout.TheVariants.{L4868}
 use Rattle.paper.specs.declared.Letter.{Letter}
@@ -20,12 +21,13 @@ use Rattle.paper.proofs.Laws.{never, same_eq}
 use Rattle.words.specs.Past.{number_if, identity_of, earlier}
 use Rattle.paper.proofs.Numbers.{length-written}
 use Rattle.words.proofs.Digits.{digits_written, number_written, number_written_whole, written_number, same_number}
-use Rattle.judge.specs.Seen.{Trail, numbers_in, some_among, seen_by, no_past, number_after, accepted_after, next_past}
+use Rattle.judge.specs.declared.Past.{Past}
+use Rattle.judge.specs.Seen.{numbers_in, some_among, seen_by, no_past, number_after, kept_number, next_past, next_row}
 
 -- before the first document
-pub starts_empty : seen_by no_past ≡ start
+pub starts_empty : (row : List ℕ) → seen_by no_past row ≡ start
 unfolding seen_by earlier
-starts_empty = refl
+starts_empty row = refl
 
 -- ONE OF THE ACCEPTED NUMBERS
 
@@ -68,6 +70,19 @@ among s (x ∷ row) n = by (ltb x 1000000000) refl (among s row n)
         at : (c : Bool) → digits s ≡ c → (c && any (eqb (number s)) row) ≡ (c && (eqb (number s) x || any (eqb (number s)) row))
         at true d = ap (λ (z : Bool). z || any (eqb (number s)) row) (sym (ne_eqb (number s) x (λ q. omega (arith, nine_below s n d, ltb-false x 1000000000 e))))
         at false d = refl
+
+-- as many as there are
+pub take-room : (n : ℕ) (l : List ℕ) → take (min n (length l)) l ≡ take n l
+take-room n l = by (ltb n (length l)) refl
+  where
+    by : (b : Bool) → ltb n (length l) ≡ b → take (min n (length l)) l ≡ take n l
+    by true h =
+        let w : n < length l = ltb-true n (length l) h in
+        let m : min n (length l) ≡ n = omega arith in
+        ap (λ (k : ℕ). take k l) m
+    by false h =
+        let w : length l ≤ n = ltb-false n (length l) h in
+        take_all (min n (length l)) l (omega arith) ∙ sym (take_all n l w)
 
 -- the number of nine digits, and none of other bytes
 nine_number : (s : Bytes) → length s ≡ 9 → number_if s ≡ cond (digits s) (Some (number s)) None
@@ -117,32 +132,42 @@ those_append p (x ∷ xs) ys = by (p x) (those_append p xs ys)
     by false e = e
 
 -- one number more
-more_numbers : (row : List ℕ) (s : Bytes) → length s ≡ 9 → digits s ≡ true → numbers_in (row ++ number s ∷ []) ≡ numbers_in row ++ s ∷ []
+more_numbers : (row : List ℕ) (s : Bytes) → length s ≡ 9 → digits s ≡ true → numbers_in (row ++ number s % 4294967296 ∷ []) ≡ numbers_in row ++ s ∷ []
 more_numbers row s n d =
-    ap (map (written 9)) (those_append (λ (x : ℕ). ltb x 1000000000) row (number s ∷ []) ∙ ap (λ (b : Bool). those (λ (x : ℕ). ltb x 1000000000) row ++ cond b (number s ∷ []) []) (lt-ltb (number s) 1000000000 (nine_below s n d)))
+    let low : number s < 1000000000 = nine_below s n d in
+    let m : number s % 4294967296 ≡ number s = mod-eq_of_lt (omega arith) in
+    ap (λ (x : ℕ). numbers_in (row ++ x ∷ [])) m
+    ∙ ap (map (written 9)) (those_append (λ (x : ℕ). ltb x 1000000000) row (number s ∷ []) ∙ ap (λ (b : Bool). those (λ (x : ℕ). ltb x 1000000000) row ++ cond b (number s ∷ []) []) (lt-ltb (number s) 1000000000 low))
     ∙ map-append (written 9) (those (λ (x : ℕ). ltb x 1000000000) row) (number s ∷ [])
     ∙ ap (λ (x : Bytes). numbers_in row ++ x ∷ []) (ap (λ (w : ℕ). written w (number s)) (sym n) ∙ written_number s d)
 
-module _ (room : ℕ) (form : Bytes) (l : Letter) (p : Trail) (some : length p.accepted < room)
+module _ (form : Bytes) (l : Letter) (p : Past) (row : List ℕ) (room : p.n < length row)
     (n7 : length (field L4868 7 form) ≡ 16) (n8 : length (field L4868 8 form) ≡ 14) (n90 : length (field L4868 90 form) ≡ 9) (good : is_a l ≡ true → digits (field L4868 90 form) ≡ true) where
-  numbers : numbers_in (accepted_after room (number_if (field L4868 90 form)) l p.accepted) ≡ cond (is_a l) (numbers_in p.accepted ++ field L4868 90 form ∷ []) (numbers_in p.accepted)
-  numbers = ap (λ (n : Option ℕ). numbers_in (accepted_after room n l p.accepted)) (nine_number ssn n90) ∙ by (is_a l) (digits ssn) refl refl
+  abbrev own : Identity
+  own = identity_of form
+
+  numbers : numbers_in (take (next_past own l p row).n (next_row own l p row)) ≡ cond (is_a l) (numbers_in (take p.n row) ++ field L4868 90 form ∷ []) (numbers_in (take p.n row))
+  unfolding next_past next_row identity_of
+  numbers = rw (lt-ltb p.n (length row) room) (by (is_a l) refl)
     where
       ssn : Bytes
       ssn = field L4868 90 form
 
-      by : (a d : Bool) → is_a l ≡ a → digits ssn ≡ d → numbers_in (accepted_after room (cond d (Some (number ssn)) None) l p.accepted) ≡ cond a (numbers_in p.accepted ++ ssn ∷ []) (numbers_in p.accepted)
-      by true true a d =
-          ap (λ (b : Bool). numbers_in (cond b (p.accepted ++ number ssn ∷ []) p.accepted)) ((λ i. a i && lt-ltb (length p.accepted) room some i)) ∙ more_numbers p.accepted ssn n90 d
-      by true false a d = absurd (never (sym d ∙ good a))
-      by false true a d = ap (λ (b : Bool). numbers_in (cond (b && ltb (length p.accepted) room) (p.accepted ++ number ssn ∷ []) p.accepted)) a
-      by false false a d = refl
+      x : ℕ
+      x = kept_number (number_if ssn)
+
+      by : (b : Bool) → is_a l ≡ b → numbers_in (take (cond (b && true) (p.n + 1) p.n) (cond (b && true) (set row p.n x) row)) ≡ cond b (numbers_in (take p.n row) ++ ssn ∷ []) (numbers_in (take p.n row))
+      by true a =
+          let m : take (p.n + 1) (set row p.n x) ≡ take p.n row ++ x ∷ [] = rw add-one (take-suc-set row p.n x room) in
+          let z : number_if ssn ≡ Some (number ssn) = nine_number ssn n90 ∙ ap (λ (d : Bool). cond d (Some (number ssn)) None) (good a) in
+          ap numbers_in m ∙ ap (λ (n : Option ℕ). numbers_in (take p.n row ++ kept_number n ∷ [])) z ∙ more_numbers (take p.n row) ssn n90 (good a)
+      by false a = refl
 
   -- the next document sees what stands in the paper after this one
-  pub leaves : seen_by (next_past room (identity_of form) l p) ≡ record {
-    dsn = digits_or (field L4868 7 form) (seen_by p).dsn;
-    dcn = digits_or (field L4868 8 form) (seen_by p).dcn;
-    accepted = cond (is_a l) ((seen_by p).accepted ++ field L4868 90 form ∷ []) (seen_by p).accepted;
+  pub leaves : seen_by (next_past (identity_of form) l p row) (next_row (identity_of form) l p row) ≡ record {
+    dsn = digits_or (field L4868 7 form) (seen_by p row).dsn;
+    dcn = digits_or (field L4868 8 form) (seen_by p row).dcn;
+    accepted = cond (is_a l) ((seen_by p row).accepted ++ field L4868 90 form ∷ []) (seen_by p row).accepted;
   }
   unfolding seen_by next_past identity_of
   leaves = λ i. record {
@@ -152,19 +177,11 @@ module _ (room : ℕ) (form : Bytes) (l : Letter) (p : Trail) (some : length p.a
   }
 
 -- a form adds its number where it got A, and nothing else
-pub next_few : (room : ℕ) (x : Identity) (l : Letter) (p : Trail) → length (next_past room x l p).accepted ≤ length p.accepted + cond (is_a l) 1 0
-unfolding next_past
-next_few room x l p = by x.ssn
+pub next_few : (x : Identity) (l : Letter) (p : Past) (row : List ℕ) → ((next_past x l p row).n ≤ p.n + cond (is_a l) 1 0) × (length (next_row x l p row) ≡ length row)
+unfolding next_past next_row
+next_few x l p row = by (is_a l) (ltb p.n (length row))
   where
-    none : (a : Bool) → length p.accepted ≤ length p.accepted + cond a 1 0
-    none true = omega arith
-    none false = omega arith
-
-    one : (a b : Bool) (n : ℕ) → length (cond (a && b) (p.accepted ++ n ∷ []) p.accepted) ≤ length p.accepted + cond a 1 0
-    one true true n = omega (arith, length-append p.accepted (n ∷ []))
-    one true false n = omega arith
-    one false b n = omega arith
-
-    by : (n : Option ℕ) → length (accepted_after room n l p.accepted) ≤ length p.accepted + cond (is_a l) 1 0
-    by None = none (is_a l)
-    by (Some n) = one (is_a l) (ltb (length p.accepted) room) n
+    by : (a b : Bool) → (cond (a && b) (p.n + 1) p.n ≤ p.n + cond a 1 0) × (length (cond (a && b) (set row p.n (kept_number x.ssn)) row) ≡ length row)
+    by true true = (omega arith, length-set row p.n (kept_number x.ssn))
+    by true false = (omega arith, refl)
+    by false b = (omega arith, refl)

@@ -36,8 +36,9 @@ use Rattle.walk.proofs.Docs.{own_goes}
 use Rattle.paper.proofs.Records.{kind_none}
 use Rattle.walk.proofs.Laws.{as_part}
 use Rattle.walk.proofs.Facts.{others_here, main_here, doc_fits}
+use Rattle.judge.specs.declared.Past.{Past}
 use Rattle.judge.specs.Kept.{broke_if, no_findings, Held, held, listed, kept_of, added}
-use Rattle.judge.specs.Seen.{Trail, numbers_in, seen_by, next_past, past_after}
+use Rattle.judge.specs.Seen.{numbers_in, seen_by, next_past, next_row, past_after, row_after}
 use Rattle.judge.specs.Judged.{one_line, searched, bank_for, item_in, set_in, broke_from, sight_in, form_broke, form_births, broke_in, judgment_of}
 use Rattle.judge.proofs.Kept.{added_none, added_append, held_counted, held_listed}
 use Rattle.judge.proofs.Found.{others_same, empty_found}
@@ -171,22 +172,22 @@ empty_eqb [] = refl
 empty_eqb (x ∷ l) = ne_eqb (length (take 96 (x ∷ l))) 0 (λ e. omega (arith, length-take 96 (x ∷ l)))
 
 -- of a document in its turn: each result, and what is known of it
-module _ (t date : Bytes) (at room : ℕ) (p : Trail) (k : Bool) (L : Lines) (e : Extent) (ee : e ≡ extent_of (drop at t)) (Known-is : known (doc_here (drop at t)) ≡ k) where
+module _ (t date : Bytes) (at : ℕ) (p : Past) (row : List ℕ) (k : Bool) (L : Lines) (e : Extent) (ee : e ≡ extent_of (drop at t)) (Known-is : known (doc_here (drop at t)) ≡ k) where
   abbrev doc : Doc
   doc = doc_here (drop at t)
 
   abbrev T : Turn
-  T = turn date (seen_by p) (case_if k L doc)
+  T = turn date (seen_by p row) (case_if k L doc)
 
   abbrev U : Turn
-  U = turn date (seen_by p) (asked L doc)
+  U = turn date (seen_by p row) (asked L doc)
 
   turn_is : T ≡ U
-  turn_is = ap (λ (c : Case). turn date (seen_by p) c) (sym (asked_if k L doc Known-is))
+  turn_is = ap (λ (c : Case). turn date (seen_by p row) c) (sym (asked_if k L doc Known-is))
 
-  module _ (found : Findings) (own : Identity) (letter : Letter) (births : ℕ) (next : Trail) (x : List Broken)
+  module _ (found : Findings) (own : Identity) (letter : Letter) (births : ℕ) (next : Past) (row' : List ℕ) (x : List Broken)
       (e_held : held x found ≡ kept_of (broke_in at T)) (e-own : own ≡ cond k (identity_of doc.main) no_identity) (e-letter : letter ≡ letter_of T) (e-births : births ≡ births_of T)
-      (e-past : next ≡ cond k (next_past room (identity_of doc.main) letter p) p) where
+      (e-past : next ≡ cond k (next_past (identity_of doc.main) letter p row) p) (e-row : row' ≡ cond k (next_row (identity_of doc.main) letter p row) row) where
     pub judged_is : ◌≡◌ {A = Judgment} (record { size = e.size; letter = letter; known = k; identity = own; found = found; facts = e.facts; births = births }) (judgment_of at U)
     unfolding judgment_of extent_of
     judged_is =
@@ -201,8 +202,11 @@ module _ (t date : Bytes) (at room : ℕ) (p : Trail) (k : Bool) (L : Lines) (e 
         })
         ∙ ap (judgment_of at) turn_is
 
-    pub past_is : next ≡ past_after room U p
-    past_is = e-past ∙ (λ j. cond (sym Known-is j) (next_past room (identity_of doc.main) (e-letter j) p) p) ∙ ap (λ (u : Turn). past_after room u p) turn_is
+    pub past_is : next ≡ past_after U p row
+    past_is = e-past ∙ (λ j. cond (sym Known-is j) (next_past (identity_of doc.main) (e-letter j) p row) p) ∙ ap (λ (u : Turn). past_after u p row) turn_is
+
+    pub row_is : row' ≡ row_after U p row
+    row_is = e-row ∙ (λ j. cond (sym Known-is j) (next_row (identity_of doc.main) (e-letter j) p row) row) ∙ ap (λ (u : Turn). row_after u p row) turn_is
 
     pub list_is : x ≡ listed (broke_in at U)
     list_is = held_listed x (broke_in at T) found e_held ∙ ap (λ (u : Turn). listed (broke_in at u)) turn_is
@@ -213,12 +217,12 @@ module _ (t date : Bytes) (at room : ℕ) (p : Trail) (k : Bool) (L : Lines) (e 
   clean_same x found q = ap (λ (l : List Broken). eqb (length l) 0) (held_listed x (broke_in at T) found q) ∙ empty_eqb (broke_in at T) ∙ empty_found (sight_of T) at 0 0 T.subject.items
 
 -- of a 4868 document
-module _ (t date : Bytes) (b : Blocks) (at room : ℕ) (p : Trail) (e : Extent) (ee : e ≡ extent_of (drop at t)) (k : known (doc_here (drop at t)) ≡ true) where
+module _ (t date : Bytes) (b : Blocks) (at : ℕ) (p : Past) (row : List ℕ) (e : Extent) (ee : e ≡ extent_of (drop at t)) (k : known (doc_here (drop at t)) ≡ true) where
   abbrev Z : Lines
   Z = searched b
 
   abbrev K : Turn
-  K = turn date (seen_by p) (case_if true Z (doc_here (drop at t)))
+  K = turn date (seen_by p row) (case_if true Z (doc_here (drop at t)))
 
   sight_is : sight_in (doc_here (drop at t)).main b.one b.four date p.dsn p.dcn e.facts ≡ sight_of K
   unfolding sight_in seen_by extent_of
@@ -238,10 +242,10 @@ module _ (t date : Bytes) (b : Blocks) (at room : ℕ) (p : Trail) (e : Extent) 
       ev
       ∙ (λ i. birth_byte (first_auth (cond (sym k i) d.others [])) (sym (searched_taxpayer b (ssn_of d)) i) (sym (searched_taxpayer b (spouse_of d)) i) (ee i).facts.pays)
 
-  module _ (form : Bytes) (found : Findings) (own : Identity) (letter : Letter) (births : ℕ) (next : Trail) (x : List Broken) (ef : form ≡ (doc_here (drop at t)).main)
+  module _ (form : Bytes) (found : Findings) (own : Identity) (letter : Letter) (births : ℕ) (next : Past) (row' : List ℕ) (x : List Broken) (ef : form ≡ (doc_here (drop at t)).main)
       (e-own : own ≡ identity_of form) (e-found : held x found ≡ kept_of (form_broke at (doc_here (drop at t)) b.one b.two b.four date p.dsn p.dcn e.facts))
-      (e-letter : letter ≡ letter_by (eqb (length x) 0) (not (empty (line_in 9 (field L4868 90 form) b.three)) || member (field L4868 90 form) (numbers_in p.accepted)))
-      (e-births : births ≡ form_births (doc_here (drop at t)) b.one e.facts) (e-past : next ≡ next_past room own letter p) where
+      (e-letter : letter ≡ letter_by (eqb (length x) 0) (not (empty (line_in 9 (field L4868 90 form) b.three)) || member (field L4868 90 form) (numbers_in (take p.n row))))
+      (e-births : births ≡ form_births (doc_here (drop at t)) b.one e.facts) (e-past : next ≡ next_past own letter p row) (e-row : row' ≡ next_row own letter p row) where
     e_held : held x found ≡ kept_of (broke_in at K)
     e_held = e-found ∙ ap kept_of form_broke_lem
 
@@ -249,18 +253,21 @@ module _ (t date : Bytes) (b : Blocks) (at room : ℕ) (p : Trail) (e : Extent) 
     unfolding letter_of twice seen_by
     letter_is =
         e-letter
-        ∙ (λ i. letter_by (clean_same t date at room p true Z e ee k x found e_held i) (not (empty (line_in 9 (field L4868 90 (ef i)) b.three)) || member (field L4868 90 (ef i)) (numbers_in p.accepted)))
-        ∙ (λ i. letter_by (empty (findings K)) (not (empty (sym (searched_filed b (ssn_of (doc_here (drop at t)))) i)) || member (ssn_of (doc_here (drop at t))) (numbers_in p.accepted)))
+        ∙ (λ i. letter_by (clean_same t date at p row true Z e ee k x found e_held i) (not (empty (line_in 9 (field L4868 90 (ef i)) b.three)) || member (field L4868 90 (ef i)) (numbers_in (take p.n row))))
+        ∙ (λ i. letter_by (empty (findings K)) (not (empty (sym (searched_filed b (ssn_of (doc_here (drop at t)))) i)) || member (ssn_of (doc_here (drop at t))) (numbers_in (take p.n row))))
 
-    pub form_judged : (◌≡◌ {A = Judgment} (record { size = e.size; letter = letter; known = true; identity = own; found = found; facts = e.facts; births = births }) (judgment_of at (turn date (seen_by p) (asked (searched b) (doc_here (drop at t))))))
-        × (next ≡ past_after room (turn date (seen_by p) (asked (searched b) (doc_here (drop at t)))) p)
-        × (x ≡ listed (broke_in at (turn date (seen_by p) (asked (searched b) (doc_here (drop at t))))))
+    pub form_judged : (◌≡◌ {A = Judgment} (record { size = e.size; letter = letter; known = true; identity = own; found = found; facts = e.facts; births = births }) (judgment_of at (turn date (seen_by p row) (asked (searched b) (doc_here (drop at t))))))
+        × (next ≡ past_after (turn date (seen_by p row) (asked (searched b) (doc_here (drop at t)))) p row)
+        × (row' ≡ row_after (turn date (seen_by p row) (asked (searched b) (doc_here (drop at t)))) p row)
+        × (x ≡ listed (broke_in at (turn date (seen_by p row) (asked (searched b) (doc_here (drop at t))))))
     form_judged =
         let o : own ≡ identity_of (doc_here (drop at t)).main = e-own ∙ ap identity_of ef in
-        let q : next ≡ next_past room (identity_of (doc_here (drop at t)).main) letter p = e-past ∙ ap (λ (y : Identity). next_past room y letter p) o in (
-          judged_is t date at room p true Z e ee k found own letter births next x e_held o letter_is (births_are births e-births) q,
-          past_is t date at room p true Z e ee k found own letter births next x e_held o letter_is (births_are births e-births) q,
-          list_is t date at room p true Z e ee k found own letter births next x e_held o letter_is (births_are births e-births) q,
+        let q : next ≡ next_past (identity_of (doc_here (drop at t)).main) letter p row = e-past ∙ ap (λ (y : Identity). next_past y letter p row) o in
+        let w : row' ≡ next_row (identity_of (doc_here (drop at t)).main) letter p row = e-row ∙ ap (λ (y : Identity). next_row y letter p row) o in (
+          judged_is t date at p row true Z e ee k found own letter births next row' x e_held o letter_is (births_are births e-births) q w,
+          past_is t date at p row true Z e ee k found own letter births next row' x e_held o letter_is (births_are births e-births) q w,
+          row_is t date at p row true Z e ee k found own letter births next row' x e_held o letter_is (births_are births e-births) q w,
+          list_is t date at p row true Z e ee k found own letter births next row' x e_held o letter_is (births_are births e-births) q w,
         )
 
 -- of any other: nothing is looked up, and nothing but the first record is judged
@@ -304,11 +311,11 @@ no_bytes t at h u = by (opens (kind_of (front (drop at t)))) refl h u
     by true o f q = absurd (never (sym (λ i. f i || q i) ∙ o))
     by false o f q = refl
 
-module _ (t date : Bytes) (at room : ℕ) (p : Trail) (L : Lines) (e : Extent) (ee : e ≡ extent_of (drop at t)) (k : known (doc_here (drop at t)) ≡ false)
+module _ (t date : Bytes) (at : ℕ) (p : Past) (row : List ℕ) (L : Lines) (e : Extent) (ee : e ≡ extent_of (drop at t)) (k : known (doc_here (drop at t)) ≡ false)
     (kind : Kind) (found : Findings) (letter : Letter) (x : List Broken) (e-kind : kind ≡ kind_of (doc_here (drop at t)).main)
     (e-found : held x found ≡ kept_of (broke_if at kind (bit (is Unknown kind)))) (e-letter : letter ≡ letter_by (eqb (length x) 0) false) where
   abbrev N : Turn
-  N = turn date (seen_by p) (case_if false L (doc_here (drop at t)))
+  N = turn date (seen_by p row) (case_if false L (doc_here (drop at t)))
 
   abbrev first : View
   first = view (sight_of N) (doc_here (drop at t)).main [] 0 0
@@ -323,7 +330,7 @@ module _ (t date : Bytes) (at room : ℕ) (p : Trail) (L : Lines) (e : Extent) (
   other_held = e-found ∙ ap kept_of broke_is
 
   clean : eqb (length x) 0 ≡ empty (findings N)
-  clean = clean_same t date at room p false L e ee k x found other_held
+  clean = clean_same t date at p row false L e ee k x found other_held
 
   -- an unknown form has one
   rows_some : is Unknown (kind_of (doc_here (drop at t)).main) ≡ true → eqb (length x) 0 ≡ false
@@ -339,25 +346,26 @@ module _ (t date : Bytes) (at room : ℕ) (p : Trail) (L : Lines) (e : Extent) (
   unfolding letter_of twice seen_by
   other_letter = e-letter ∙ ap (λ (b : Bool). letter_by b false) clean ∙ by (is Unknown (kind_of (doc_here (drop at t)).main)) refl
     where
-      by : (b : Bool) → is Unknown (kind_of (doc_here (drop at t)).main) ≡ b → letter_by (empty (findings N)) false ≡ letter_by (empty (findings N)) (false || member (ssn_of (doc_here (drop at t))) (numbers_in p.accepted))
+      by : (b : Bool) → is Unknown (kind_of (doc_here (drop at t)).main) ≡ b → letter_by (empty (findings N)) false ≡ letter_by (empty (findings N)) (false || member (ssn_of (doc_here (drop at t))) (numbers_in (take p.n row)))
       by true u = some (empty (findings N)) (sym clean ∙ rows_some u)
         where
-          some : (c : Bool) → c ≡ false → letter_by c false ≡ letter_by c (false || member (ssn_of (doc_here (drop at t))) (numbers_in p.accepted))
+          some : (c : Bool) → c ≡ false → letter_by c false ≡ letter_by c (false || member (ssn_of (doc_here (drop at t))) (numbers_in (take p.n row)))
           some true z = absurd (never (sym z))
           some false z = refl
-      by false u = ap (letter_by (empty (findings N))) (sym (ap (λ (m : Bytes). member (field L4868 90 m) (numbers_in p.accepted)) (no_bytes t at k u) ∙ ap (λ (m : Bytes). member m (numbers_in p.accepted)) no_field_lem ∙ member_none p.accepted))
+      by false u = ap (letter_by (empty (findings N))) (sym (ap (λ (m : Bytes). member (field L4868 90 m) (numbers_in (take p.n row))) (no_bytes t at k u) ∙ ap (λ (m : Bytes). member m (numbers_in (take p.n row))) no_field_lem ∙ member_none (take p.n row)))
 
   -- without an authentication no birth date is compared
   no_births : 48 ≡ births_of N
   unfolding births_of birth_byte compares_births field entry authentication
   no_births = ap (λ (b : Bool). birth_byte (first_auth (cond b (doc_here (drop at t)).others [])) [] [] (sight_of N).whole.pays) (sym k)
 
-  pub other_judged : (◌≡◌ {A = Judgment} (record { size = e.size; letter = letter; known = false; identity = no_identity; found = found; facts = e.facts; births = 48 }) (judgment_of at (turn date (seen_by p) (asked L (doc_here (drop at t))))))
-      × (p ≡ past_after room (turn date (seen_by p) (asked L (doc_here (drop at t)))) p) × (x ≡ listed (broke_in at (turn date (seen_by p) (asked L (doc_here (drop at t))))))
+  pub other_judged : (◌≡◌ {A = Judgment} (record { size = e.size; letter = letter; known = false; identity = no_identity; found = found; facts = e.facts; births = 48 }) (judgment_of at (turn date (seen_by p row) (asked L (doc_here (drop at t))))))
+      × (p ≡ past_after (turn date (seen_by p row) (asked L (doc_here (drop at t)))) p row) × (row ≡ row_after (turn date (seen_by p row) (asked L (doc_here (drop at t)))) p row) × (x ≡ listed (broke_in at (turn date (seen_by p row) (asked L (doc_here (drop at t))))))
   other_judged = (
-    judged_is t date at room p false L e ee k found no_identity letter 48 p x other_held refl other_letter no_births refl,
-    past_is t date at room p false L e ee k found no_identity letter 48 p x other_held refl other_letter no_births refl,
-    list_is t date at room p false L e ee k found no_identity letter 48 p x other_held refl other_letter no_births refl,
+    judged_is t date at p row false L e ee k found no_identity letter 48 p row x other_held refl other_letter no_births refl refl,
+    past_is t date at p row false L e ee k found no_identity letter 48 p row x other_held refl other_letter no_births refl refl,
+    row_is t date at p row false L e ee k found no_identity letter 48 p row x other_held refl other_letter no_births refl refl,
+    list_is t date at p row false L e ee k found no_identity letter 48 p row x other_held refl other_letter no_births refl refl,
   )
 
 -- WHAT THE CODE KNOWS OF THE FIRST RECORD

@@ -14,7 +14,7 @@ ghost use Rattle.lookup.specs.Find.{line_in};
 ghost use Rattle.walk.specs.Parts.{doc_here};
 ghost use Rattle.judge.specs.Kept.{broke_if, held, listed, kept_of, added};
 ghost use Rattle.words.specs.Past.{identity_of};
-ghost use Rattle.judge.specs.Seen.{trail, numbers_in, some_among, seen_by, no_past, next_past, past_after};
+ghost use Rattle.judge.specs.Seen.{numbers_in, some_among, seen_by, no_past, next_past, next_row, past_after, row_after};
 ghost use Rattle.judge.specs.Judged.{searched, bank_for, item_in, broke_from, form_broke, form_births, broke_in, counts, judgment_of};
 
 use arrayvec::ArrayVec;
@@ -23,23 +23,24 @@ use paper::Layout::{L4868, LPayment};
 use paper::{Broken, Facts, Findings, Identity, Judgment, Kind, Letter, Reference};
 use rules::Before;
 
-// What the earlier documents leave: the nearest 0007 and 0008 that are digits, and the primary numbers of those that got A.
-#[derive(Drop)]
-pub struct Past<const N: usize> {
+// What the earlier documents leave, beside a row of the primary numbers of those that got A: the nearest 0007 and 0008 that are digits, and
+// how many numbers of the row there are.
+#[derive(Clone, Copy)]
+pub struct Past {
     pub dsn: Option<u64>,
     pub dcn: Option<u64>,
-    pub accepted: ArrayVec<u64, N>,
+    pub n: usize,
 }
 
-impl<const N: usize> Past<N> {
+impl Past {
     // Before the first document.
     pub fn new() -> Self
-        ensures { trail result ≡ no_past }
+        ensures { result ≡ no_past }
     {
         Past {
             dsn: None,
             dcn: None,
-            accepted: ArrayVec::new(),
+            n: 0,
         }
     }
 }
@@ -93,22 +94,27 @@ fn collected(
 // THE EARLIER DOCUMENTS
 
 // An earlier document with this primary number got A.
-fn is_accepted(ssn: Option<u64>, accepted: &[u64]) -> bool
+fn is_accepted(ssn: Option<u64>, accepted: &[u32]) -> bool
     ensures { result ≡ some_among ssn accepted.now }
 {
-    ssn.is_some_and(|n| accepted.contains(&n))
+    let Some(n) = ssn else {
+        return false;
+    };
+    accepted.iter().any(|x| n == u64::from(*x))
 }
 
 // What a form leaves for the later documents to see, with its letter.
-#[tactic(auto, unfolding(crate::specs::Seen::next_past))]
-fn pass<const N: usize>(identity: Identity, letter: Letter, past: &mut Past<N>)
-    ensures { trail past.new ≡ next_past N identity letter (trail past.old) }
+#[tactic(auto, unfolding(crate::specs::Seen::next_past, crate::specs::Seen::next_row))]
+fn pass(identity: Identity, letter: Letter, past: &mut Past, row: &mut [u32])
+    ensures past_becomes { past.new ≡ next_past identity letter past.old row.old }
+    ensures row_becomes { row.new ≡ next_row identity letter past.old row.old }
 {
     past.dsn = identity.dsn.or(past.dsn);
     past.dcn = identity.dcn.or(past.dcn);
-    if let (Letter::A, Some(ssn)) = (letter, identity.ssn) {
-        // Where there is no room for it, it is not kept.
-        let _ = past.accepted.try_push(ssn);
+    // Where there is no room for its number, it is not kept.
+    if letter == Letter::A && past.n < row.len() {
+        row[past.n] = (identity.ssn.unwrap_or(0) % 4294967296) as u32;
+        past.n += 1;
     }
 }
 
@@ -228,7 +234,7 @@ fn letter_by(clean: bool) -> Letter
     if clean { Letter::A } else { Letter::R }
 }
 
-fn letter_of(clean: bool, identity: Identity, filed: &[u8], form: &[u8], accepted: &[u64]) -> Letter
+fn letter_of(clean: bool, identity: Identity, filed: &[u8], form: &[u8], accepted: &[u32]) -> Letter
     requires { (identity ≡ identity_of form.now) × (length form.now ≡ 384) }
     ensures { result ≡ letter_by clean (not (empty (line_in 9 (field L4868 90 form.now) filed.now)) || member (field L4868 90 form.now) (numbers_in accepted.now)) }
 {
@@ -246,17 +252,19 @@ fn letter_of(clean: bool, identity: Identity, filed: &[u8], form: &[u8], accepte
 
 // The document whose first record is at a place: its judgment, with the records that break a rule, the first 96, and what the later ones see.
 // Of an unknown form only the first record is judged, and nothing is looked up.
-pub fn judge<const N: usize>(
+pub fn judge(
     t: &[u8],
     at: usize,
     reference: Reference,
     date: &[u8],
-    past: &mut Past<N>,
+    past: &mut Past,
+    row: &mut [u32],
     list: &mut ArrayVec<Broken, 96>,
 ) -> Judgment
-    ensures value { result ≡ judgment_of at (turn date.now (seen_by (trail past.old)) (asked (searched (lent reference.entry)) (doc_here (drop at t.now)))) }
-    ensures past_becomes { trail past.new ≡ past_after N (turn date.now (seen_by (trail past.old)) (asked (searched (lent reference.entry)) (doc_here (drop at t.now)))) (trail past.old) }
-    ensures list_after { list.new.items ≡ listed (broke_in at (turn date.now (seen_by (trail past.old)) (asked (searched (lent reference.entry)) (doc_here (drop at t.now))))) }
+    ensures value { result ≡ judgment_of at (turn date.now (seen_by past.old row.old) (asked (searched (lent reference.entry)) (doc_here (drop at t.now)))) }
+    ensures past_becomes { past.new ≡ past_after (turn date.now (seen_by past.old row.old) (asked (searched (lent reference.entry)) (doc_here (drop at t.now)))) past.old row.old }
+    ensures row_becomes { row.new ≡ row_after (turn date.now (seen_by past.old row.old) (asked (searched (lent reference.entry)) (doc_here (drop at t.now)))) past.old row.old }
+    ensures list_after { list.new.items ≡ listed (broke_in at (turn date.now (seen_by past.old row.old) (asked (searched (lent reference.entry)) (doc_here (drop at t.now))))) }
 {
     list.clear();
     let doc = walk::document(t, at);
@@ -278,7 +286,7 @@ pub fn judge<const N: usize>(
     let formed = of_form(
         t, at, doc.facts, form, reference, date, past.dsn, past.dcn, list,
     );
-    let accepted = past.accepted.as_slice();
+    let accepted = &row[..past.n.min(row.len())];
     let letter = letter_of(
         list.is_empty(),
         formed.identity,
@@ -286,7 +294,7 @@ pub fn judge<const N: usize>(
         form,
         accepted,
     );
-    pass(formed.identity, letter, past);
+    pass(formed.identity, letter, past, row);
     Judgment {
         size: doc.size,
         letter,

@@ -1,7 +1,7 @@
 -- The lines of one width, as `chunks_exact` gives them.
 -- Assumes nothing.
 use mathlib.Core.Path.{◌≡◌, sym, ap, ◌∙◌, subst}
-use mathlib.Core.List.{List, [], ◌∷◌, ◌++◌, map}
+use mathlib.Core.List.{List, [], ◌∷◌, ◌++◌}
 use Prim.Native.Nat.{ℕ, suc, ◌+◌, ◌/◌, ◌<◌}
 use native.Mathlib.Nat.{add-div_left, div-eq_of_lt}
 use native.Mathlib.Omega.{arith}
@@ -11,11 +11,6 @@ use denote.Ref.{Bor}
 use Rattle.std.proofs.Common.{None, Some}
 use Rattle.std.specs.declared.slice.ChunksExact.{ChunksExact}
 use Rattle.std.specs.Slice.Iter.{chunks_exact_steps, chunks_exact_size, chunks_exact_rest}
-use Rattle.std.specs.Iterator.{Yields}
-use Rattle.std.specs.Iterator.Runs.{Run, ItemsMapTo, ItemsMapToExactChunks}
-use Rattle.std.proofs.iter.runs.Sources.{lists}
-use Rattle.std.proofs.iter.runs.Made.{took}
-use Rattle.std.proofs.iter.runs.Cuts.{chunks_exact_runs}
 use Rattle.std.proofs.lemmas.Iterator.{YieldsList}
 use Rattle.std.proofs.lemmas.Iterator.Splits.{YieldsList-from_shown_while}
 use Rattle.paper.specs.Bytes.{Bytes}
@@ -32,14 +27,14 @@ unfolding lines_in
 no_line w s h = let none : length s / w ≡ 0 = div-eq_of_lt h in ap (λ (m : ℕ). rows m w s) none
 
 -- the lines that are left to come
-abbrev left : ChunksExact ℕ → List Bytes
+abbrev pub left : ChunksExact ℕ → List Bytes
 left s = lines_in (chunks_exact_size s) (chunks_exact_rest s)
 
 abbrev Wide : ChunksExact ℕ → Type 0
 Wide s = 0 < chunks_exact_size s
 
-ended : (s t : ChunksExact ℕ) → Wide s → chunks_exact_steps s None t → length (left s) ≡ 0
-ended s t h e = ap length (no_line (chunks_exact_size s) (chunks_exact_rest s) e.1.0)
+ended : (s t : ChunksExact ℕ) → Wide s → chunks_exact_steps s None t → left s ≡ []
+ended s t h e = no_line (chunks_exact_size s) (chunks_exact_rest s) e.1.0
 
 came : (s : ChunksExact ℕ) (x : Bor Bytes) (t : ChunksExact ℕ) → Wide s → chunks_exact_steps s (Some x) t → Wide t × (left s ≡ x.now ∷ left t)
 came s x t h e = (
@@ -48,30 +43,18 @@ came s x t h e = (
       ∙ ap (λ (w : ℕ). x.now ∷ lines_in w (chunks_exact_rest t)) (sym e.0),
 )
 
+-- a loop over lines of w bytes
+module _ (w : ℕ) (some : 0 < w) where
+  pub next_line : (s : ChunksExact ℕ) (x : Bor Bytes) (t : ChunksExact ℕ) → chunks_exact_size s ≡ w → chunks_exact_steps s (Some x) t
+      → (chunks_exact_size t ≡ w) × (length x.now ≡ w) × (left s ≡ x.now ∷ left t)
+  next_line s x t h e = (e.0 ∙ h, e.1.1 ∙ h, (came s x t (omega arith) e).1)
+
+  pub no_more : (s t : ChunksExact ℕ) → chunks_exact_size s ≡ w → chunks_exact_steps s None t → left s ≡ []
+  no_more s t h e = ended s t (omega arith) e
+
 -- the lines of w bytes in b come
 module _ (w : ℕ) (b : Bytes) (some : 0 < w) where
   pub lines_come : (s : ChunksExact ℕ) → chunks_exact_size s ≡ w → chunks_exact_rest s ≡ b → YieldsList (chunks_exact_steps {A = ℕ}) (λ y. y.now) s (lines_in w b)
   lines_come s size rest =
       subst (λ (l : List Bytes). YieldsList (chunks_exact_steps {A = ℕ}) (λ y. y.now) s l) (λ i. lines_in (size i) (rest i))
-      (YieldsList-from_shown_while (chunks_exact_steps {A = ℕ}) (λ y. y.now) left Wide ended came s (omega arith))
-
-  -- the same of a run
-  module _ (p : Run (chunks_exact_steps {A = ℕ})) (size : chunks_exact_size p.from ≡ w) (rest : chunks_exact_rest p.from ≡ b) where
-    so_far : (xs : List (Bor Bytes)) (s t : ChunksExact ℕ) → Wide s → Yields (chunks_exact_steps {A = ℕ}) s xs t
-        → Wide t × (left s ≡ map (λ (y : Bor Bytes). y.now) xs ++ left t)
-    so_far [] s t h y = (subst Wide y h, ap left y)
-    so_far (x ∷ xs) s t h y =
-        let one = came s x y.0 h y.1 in
-        let more = so_far xs y.0 t one.0 y.2 in
-        (more.0, one.1 ∙ ap (λ (l : List Bytes). x.now ∷ l) more.1)
-
-    pub lines_run : ItemsMapTo p (λ y. y.now) (lines_in w b)
-    lines_run =
-        let all = so_far p.items p.from (took p).0 (omega arith) (took p).1 in
-        lists p (λ y. y.now) (lines_in w b) (left (took p).0) (λ h. ended (took p).0 ((took p).2 h).0 all.0 ((took p).2 h).1)
-        ((λ i. lines_in (sym size i) (sym rest i)) ∙ all.1)
-
-    pub lines_wide : ItemsMapToExactChunks p (λ y. y.now) w b
-    lines_wide =
-        subst (λ (l : Bytes). ItemsMapToExactChunks p (λ y. y.now) w l) rest
-        (subst (λ (n : ℕ). ItemsMapToExactChunks p (λ y. y.now) n (chunks_exact_rest p.from)) size (chunks_exact_runs p p.seen (omega arith)))
+      (YieldsList-from_shown_while (chunks_exact_steps {A = ℕ}) (λ y. y.now) left Wide (λ s t h e. ap length (ended s t h e)) came s (omega arith))

@@ -3,11 +3,11 @@
 
 ghost use Rattle.std.specs.Prelude.{◌≡◌, ℕ, ◌<◌, ◌≤◌, Bool, List};
 ghost use Rattle.std.specs.Iterator.{ActsAsAt};
-ghost use Rattle.paper.specs.Pack.{yes_no, taxpayer_line, bank_line, state_line, lines_in, rises, good_body};
+ghost use Rattle.paper.specs.Pack.{yes_no, taxpayer_line, bank_line, state_line, good_body};
 ghost use Rattle.lines.specs.Body.{good_lines};
 
 use kinds::{CONTROL, all_of, digits, letters};
-use text::{is_before, is_lower, key_of, piece};
+use text::{Key, is_before, is_lower, key_of, piece};
 
 fn is_yes_no(x: u8) -> bool
     ensures { result ≡ yes_no x }
@@ -38,23 +38,28 @@ fn state_line(l: &[u8]) -> bool
     letters(piece(l, 0, 2)) && digits(piece(l, 2, 6)) && !is_before(piece(l, 5, 3), piece(l, 2, 3))
 }
 
-// The first `rise` bytes of each line come before those of the next; compared as numbers, since a pack is checked a third faster so.
-fn ascend(b: &[u8], width: usize, rise: usize) -> bool
-    requires { (0 < width) × (rise ≤ 16) }
-    ensures { result ≡ rises rise (lines_in width b.now) }
-{
-    b.chunks_exact(width)
-        .map(|l| key_of(piece(l, 0, rise)))
-        .is_sorted_by(|a, b| is_lower(*a, *b))
-}
-
-// Whole lines of this width, each of which passes the test, and whose first `rise` bytes ascend.
-fn good_lines<F: FnMut(&[u8]) -> bool>(b: &[u8], width: usize, rise: usize, good: F) -> bool
+// Whole lines of this width, each of which passes the test, and whose first `rise` bytes ascend: each line is looked at once, up to the first
+// that is bad or does not come after the one before. The keys are compared as numbers, since a pack is checked a third faster so.
+fn good_lines<F: FnMut(&[u8]) -> bool>(b: &[u8], width: usize, rise: usize, mut good: F) -> bool
     requires widths { (0 < width) × (rise ≤ 16) }
     requires callable { (state : F) (x : _) → F.pre state x }
     ensures { (p : List ℕ → Bool) → ActsAsAt F.FnMut good p → result ≡ good_lines width rise p b.now }
 {
-    b.len() % width == 0 && b.chunks_exact(width).all(good) && ascend(b, width, rise)
+    if b.len() % width != 0 {
+        return false;
+    }
+    let mut last: Option<Key> = None;
+    for line in b.chunks_exact(width) {
+        if !good(line) {
+            return false;
+        }
+        let key = key_of(piece(line, 0, rise));
+        if last.is_some_and(|before| !is_lower(before, key)) {
+            return false;
+        }
+        last = Some(key);
+    }
+    true
 }
 
 // The lines of a block of this kind. The contract speaks of every number, also of one that is no block's, so the kind is a number here.

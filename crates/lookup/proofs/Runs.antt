@@ -1,18 +1,18 @@
 -- The lines of a key that stand in a row, on any bytes.
 -- Assumes nothing.
 use mathlib.Core.Path.{◌≡◌, refl, sym, ap, ◌∙◌, subst}
-use mathlib.Core.Bool.{Bool, true, false, ◌&&◌, cond}
+use mathlib.Core.Bool.{Bool, true, false, ◌&&◌, cond, and-false}
 use mathlib.Core.List.{List, [], ◌∷◌}
 use Prim.Native.Nat.{ℕ, zero, suc, ◌+◌, ◌-◌, ◌*◌, ◌/◌, ◌≤◌, ◌<◌}
 use native.Mathlib.Nat.{zero-mul, mul-zero, suc-mul, add_comm, le_trans, le_of_suc-le-suc, not-suc-le-zero, div-mul-le_self, mul-le-mul_right, mul-div_cancel, sub-zero, zero-add, suc-add, suc-sub-suc, add-mul}
 use native.Mathlib.Numerals.{sub-one}
 use native.Mathlib.Omega.{arith}
 use lib.Pointwise.{pointwise}
-use Rattle.std.specs.List.{starts_with, prefix_len}
+use Rattle.std.specs.List.{prefix_len}
 use Rattle.std.proofs.lemmas.List.Folds.{length-prefix_len}
 use Rattle.std.proofs.lemmas.List.Sums.{take_while-cons}
 use lib.Dec.{ltb, leb, eqb}
-use lib.ListN.{length, take, drop, length-take, length-drop}
+use lib.ListN.{length, get_or, take, drop, length-take, length-drop}
 use lib.Seq.{take-take, drop-drop, take-nil}
 use borrow.Author.Tests.{le-leb, eq-eqb, ne_eqb, eqb-true, eqb-false, lt-ltb, le-ltb, ltb-true, ltb-false}
 use Rattle.paper.specs.Bytes.{Bytes, same, before, part, empty, first_or}
@@ -42,9 +42,25 @@ equal_same (x ∷ a) (y ∷ b) = λ i. turned (eqb x y) refl i && equal_same a b
     turned true e = sym (eq-eqb y x (sym (eqb-true x y e)))
     turned false e = sym (ne_eqb y x (λ f. eqb-false x y e (sym f)))
 
--- what begins with the key has it
-pub starts_keyed : (key l : Bytes) → starts_with eqb l key ≡ keyed key l
-starts_keyed key l = equal_same key (take (length key) l)
+-- a line that is too short, or differs at a place, has not the key; one that is the same at each place has it
+pub short_line : (key l : Bytes) → length l < length key → false ≡ keyed key l
+short_line [] l h = absurd (omega arith)
+short_line (x ∷ key) [] h = refl
+short_line (x ∷ key) (y ∷ l) h = sym (and-false (eqb y x)) ∙ ap (λ (b : Bool). eqb y x && b) (short_line key l (omega (arith, h)))
+
+pub other_byte : (i : ℕ) (key l : Bytes) → i < length key → length key ≤ length l → (get_or l i 0 ≡ get_or key i 0 → ⊥) → false ≡ keyed key l
+other_byte i [] l h w n = absurd (omega arith)
+other_byte i (x ∷ key) [] h w n = refl
+other_byte zero (x ∷ key) (y ∷ l) h w n = ap (λ (b : Bool). b && keyed key l) (sym (ne_eqb y x n))
+other_byte (suc i) (x ∷ key) (y ∷ l) h w n =
+    sym (and-false (eqb y x)) ∙ ap (λ (b : Bool). eqb y x && b) (other_byte i key l (omega (arith, h)) (omega (arith, w)) n)
+
+pub same_bytes : (key l : Bytes) → length key ≤ length l → ((j : ℕ) → j < length key → get_or l j 0 ≡ get_or key j 0) → true ≡ keyed key l
+same_bytes [] l w h = refl
+same_bytes (x ∷ key) [] w h = absurd (omega (arith, w))
+same_bytes (x ∷ key) (y ∷ l) w h =
+    let e : true ≡ eqb y x = sym (eq-eqb y x (h zero (omega arith))) in
+    λ i. e i && same_bytes key l (omega (arith, w)) (λ j g. h (suc j) (omega (arith, g))) i
 
 -- how many lines a list of rows has
 pub length-rows : (n w : ℕ) (s : Bytes) → length (rows n w s) ≡ n

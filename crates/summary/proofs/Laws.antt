@@ -65,9 +65,8 @@ module _ (p q : ℕ → Bool) (kept : (x : ℕ) → q x ≡ true → p x ≡ fal
       ∙ mul-mod_first t 2 18446744073709551616
       ∙ ap (λ (k : ℕ). k % 18446744073709551616) (mul_assoc later (2 ^ length s) 2 ∙ ap (λ (k : ℕ). later * k) (sym (pow-suc 2 (length s))))
 
--- the fields of a run before a set, where t, the bytes that hold them, is blank
-pub kept_run : (own t : Bytes) (from to later : ℕ) (fields : List ℕ)
-    → blank t ≡ true → t ≡ through LSummary from to own → every (is_within from to) fields ≡ true → later < 18446744073709551616
+-- the fields of a run before a set, where the bytes that hold them are blank
+pub kept_run : (own : Bytes) (from to later : ℕ) (fields : List ℕ)
+    → blank (through LSummary from to own) ≡ true → every (is_within from to) fields ≡ true → later < 18446744073709551616
     → later * 2 ^ length fields % 18446744073709551616 ≡ bits_on (λ (n : ℕ). present (field LSummary n own)) fields later
-kept_run own t from to later fields h u w l =
-    sym (bits_kept (λ (n : ℕ). present (field LSummary n own)) (is_within from to) (run_kept own from to (ap blank (sym u) ∙ h)) fields later w l)
+kept_run own from to later fields h w l = sym (bits_kept (λ (n : ℕ). present (field LSummary n own)) (is_within from to) (run_kept own from to h) fields later w l)

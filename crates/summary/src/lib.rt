@@ -3,8 +3,8 @@
 
 ghost use Rattle.std.specs.Prelude.{◌≡◌, ◌<◌, ◌&&◌, true, cond, [], ◌∷◌, eqb, length, map};
 ghost use Rattle.paper.specs.declared.Layout.TheVariants.{LSummary};
-ghost use Rattle.paper.specs.Bytes.{every, present};
-ghost use Rattle.paper.specs.Layouts.{field};
+ghost use Rattle.paper.specs.Bytes.{every, blank, present};
+ghost use Rattle.paper.specs.Layouts.{field, through};
 ghost use Rattle.words.specs.Tables.{rule_text};
 ghost use Rattle.words.specs.Sets.{bits_on, bits_by};
 ghost use Rattle.paper.specs.Conditions.{summary_fillers, wrong_year, not_time, summary_rules};
@@ -58,27 +58,41 @@ fn of_head(form: &[u8], own: &[u8], later: u64) -> u64
     words::and_rule(fillers(own), set)
 }
 
-// Each of these fields in reserve that is not blank, before later rules.
-fn and_reserves(fields: &[u32], own: &[u8], later: u64) -> u64
-    ensures { result ≡ bits_on (λ n. present (field LSummary n own.now)) fields.now later }
-{
-    fields.iter().rev().fold(later, |set, n| {
-        words::and_rule(!text::blank(field_of(LSummary, *n, own)), set)
-    })
+// Each of these fields in reserve that is not blank, before later rules. A macro writes the list out: of a literal number the compiler knows
+// where the field stands, and a number that is known only as the program runs would be looked up in the layout.
+macro_rules! and_reserves {
+    ([], $own:ident, $later:ident) => {
+        $later
+    };
+    ([$n:literal $(, $more:literal)*], $own:ident, $later:ident) => {
+        words::and_rule(
+            !text::blank(field_of(LSummary, $n, $own)),
+            and_reserves!([$($more),*], $own, $later),
+        )
+    };
 }
 
 // The same where the fields stand in the run from one field to another, which is looked at first.
+macro_rules! and_run {
+    ([$($n:literal),+], $from:literal, $to:literal, $own:ident, $later:ident) => {
+        if text::blank(through(LSummary, $from, $to, $own)) {
+            past_run(&[$($n),+], $from, $to, $own, $later)
+        } else {
+            and_reserves!([$($n),+], $own, $later)
+        }
+    };
+}
+
+// Where the run is blank, none of the rules is broken: the set moves by as many places, and what would pass the 64th is lost. The
+// fields and the record are there for the contract.
 #[inline(always)]
-fn and_run(fields: &[u32], from: u32, to: u32, own: &[u8], later: u64) -> u64
+fn past_run(fields: &[u32], from: u32, to: u32, own: &[u8], later: u64) -> u64
     requires is_few { length fields.now < 64 }
     requires is_run { every (is_within from to) fields.now ≡ true }
+    requires is_blank { blank (through LSummary from to own.now) ≡ true }
     ensures { result ≡ bits_on (λ n. present (field LSummary n own.now)) fields.now later }
 {
-    if text::blank(through(LSummary, from, to, own)) {
-        // None of them: the set moves by as many places, and what would pass the 64th is lost.
-        return later << fields.len();
-    }
-    and_reserves(fields, own, later)
+    later << fields.len()
 }
 
 // The rules on 0050 to 0090, before later ones.
@@ -87,7 +101,7 @@ fn of_50_to_90(own: &[u8], later: u64) -> u64
     ensures { result ≡ bits_on (breaks [] own.now) (500014 ∷ 550014 ∷ 600014 ∷ 630014 ∷ 700014 ∷ 750014 ∷ 800014 ∷ 900010 ∷ []) later }
 {
     let set = words::and_rule(!kinds::digits(field_of(LSummary, 90, own)), later);
-    and_run(&[50, 55, 60, 63, 70, 75, 80], 50, 80, own, set)
+    and_run!([50, 55, 60, 63, 70, 75, 80], 50, 80, own, set)
 }
 
 // The rules on 0100 to 0250, all in reserve, before later ones.
@@ -96,15 +110,15 @@ fn of_reserves(own: &[u8], later: u64) -> u64
     ensures { result ≡ bits_on (breaks [] own.now) (1000014 ∷ 1100014 ∷ 1200014 ∷ 1300014 ∷ 1330014 ∷ 1350014 ∷ 1400014 ∷ 1500014 ∷ 1700014 ∷ 1800014 ∷ 1850014 ∷ 1880014 ∷ 1890014 ∷ 1900014 ∷ 1950014 ∷ 2000014 ∷ 2100014 ∷ 2150014 ∷ 2170014 ∷ 2190014 ∷ 2200014 ∷ 2500014 ∷ []) later }
 {
     let set = words::and_rule(!text::blank(field_of(LSummary, 250, own)), later);
-    and_run(
-        &[
+    and_run!(
+        [
             100, 110, 120, 130, 133, 135, 140, 150, 170, 180, 185, 188, 189, 190, 195, 200, 210,
-            215, 217, 219, 220,
+            215, 217, 219, 220
         ],
         100,
         220,
         own,
-        set,
+        set
     )
 }
 

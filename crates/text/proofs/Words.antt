@@ -5,7 +5,7 @@ use Prim.Native.Nat.{ℕ, zero, suc, ◌+◌, ◌-◌, ◌*◌, ◌^◌, ◌<◌
 use mathlib.Core.Path.{◌≡◌, refl, sym, ap, ap₂, ◌∙◌}
 use mathlib.Core.Bool.{Bool, true, false, ◌&&◌, ◌||◌, cond}
 use mathlib.Core.List.{[], ◌∷◌, ◌++◌}
-use native.Mathlib.Nat.{le_of_eq, div-div-eq-div-mul, zero-add, zero-mul, mul-one, mul_assoc, pow-suc, one-le-pow, suc-mul, mul-le-mul_right}
+use native.Mathlib.Nat.{le_of_eq, div-div-eq-div-mul, zero-add, zero-mul, one-mul, mul-one, mul_comm, mul_assoc, add-mul, pow-suc, one-le-pow, suc-mul, mul-le-mul_right}
 use native.Mathlib.Omega.{arith}
 use Rattle.std.proofs.lemmas.List.{drop-replicate, take-append-drop}
 use Rattle.std.proofs.lemmas.List.Folds.{list_all-append}
@@ -71,6 +71,17 @@ none_high : (k : ℕ) → high k [] ≡ 0
 none_high zero = refl
 none_high (suc k) = refl
 
+none_back : (k : ℕ) → high k (bytes_of k 0) ≡ 0
+none_back zero = refl
+none_back (suc k) = ap₂ ◌+◌ (zero-mul (256 ^ k)) (none_back k)
+
+pub high_little : (k : ℕ) (s : Bytes) → every is_byte s ≡ true → high k (bytes_of k (little s)) ≡ high k s
+high_little zero s h = refl
+high_little (suc k) [] h = none_back (suc k)
+high_little (suc k) (x ∷ s) h =
+    (λ i. digits_mod (little s) (first_byte x s h) i * 256 ^ k + high k (bytes_of k (digits_div (little s) (first_byte x s h) i)))
+    ∙ ap (λ (n : ℕ). x * 256 ^ k + n) (high_little k s (other_bytes x s h))
+
 pub high_lt : (k : ℕ) (s : Bytes) → every is_byte s ≡ true → high k s < 256 ^ k
 high_lt zero s h = lit< tt
 high_lt (suc k) [] h = one-le-pow (suc k) 256 (lit< tt)
@@ -111,11 +122,31 @@ before_high (suc k) (x ∷ s) (y ∷ t) h g l m =
     ap (λ (c : Bool). ltb x y || eqb x y && c) (before_high k s t (other_bytes x s h) (other_bytes y t g) (omega (arith, l)) (omega (arith, m)))
     ∙ sym (pair_ltb (256 ^ k) x y (high k s) (high k t) (high_lt k s (other_bytes x s h)) (high_lt k t (other_bytes y t g)))
 
+power_split : (n k j : ℕ) → n ≡ k + j → 256 ^ n ≡ 256 ^ k * 256 ^ j
+power_split n zero j e = let m : n ≡ j = omega arith in ap (λ (i : ℕ). 256 ^ i) m ∙ sym (one-mul (256 ^ j))
+power_split zero (suc k) j e = absurd (omega arith)
+power_split (suc n) (suc k) j e =
+    let on : 256 ^ k * 256 ^ j * 256 ≡ 256 ^ k * 256 * 256 ^ j =
+    mul_assoc (256 ^ k) (256 ^ j) 256 ∙ ap (λ (m : ℕ). 256 ^ k * m) (mul_comm (256 ^ j) 256) ∙ sym (mul_assoc (256 ^ k) 256 (256 ^ j)) in
+    pow-suc 256 n ∙ ap (λ (m : ℕ). m * 256) (power_split n k j (omega arith)) ∙ on ∙ ap (λ (m : ℕ). m * 256 ^ j) (sym (pow-suc 256 k))
+
 pub drop-take : (n k j : ℕ) (s : Bytes) → n ≡ k + j → drop k (take n s) ≡ take j (drop k s)
 drop-take n zero j s e = let m : n ≡ j = omega arith in ap (λ (i : ℕ). take i s) m
 drop-take zero (suc k) j s e = absurd (omega arith)
 drop-take (suc n) (suc k) j [] e = sym (take-nil j)
 drop-take (suc n) (suc k) j (x ∷ s) e = drop-take n k j s (omega arith)
+
+-- the number of two parts
+pub high_split : (n k j : ℕ) (s : Bytes) → n ≡ k + j → high n s ≡ high k s * 256 ^ j + high j (drop k s)
+high_split n zero j s e =
+    let m : n ≡ j = omega arith in
+    ap (λ (i : ℕ). high i s) m ∙ omega (arith, zero-mul (256 ^ j))
+high_split zero (suc k) j s e = absurd (omega arith)
+high_split (suc n) (suc k) j [] e = sym (ap₂ ◌+◌ (zero-mul (256 ^ j)) (none_high j))
+high_split (suc n) (suc k) j (x ∷ s) e =
+    let less : n ≡ k + j = omega arith in
+    let top : x * 256 ^ n ≡ x * 256 ^ k * 256 ^ j = ap (λ (m : ℕ). x * m) (power_split n k j less) ∙ sym (mul_assoc x (256 ^ k) (256 ^ j)) in
+    omega (arith, top, high_split n k j s less, add-mul (x * 256 ^ k) (high k s) (256 ^ j))
 
 -- FOR THE FUNCTIONS
 

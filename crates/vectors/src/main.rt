@@ -32,6 +32,7 @@ fn path_of(i: usize, part: &[u8]) -> [u8; 16]
 // A part of case i, read into buf.
 fn read_part<'a, R: Files>(rt: &R, i: usize, part: &[u8], buf: &'a mut [u8]) -> &'a [u8]
     requires { length part.now ≤ 12 }
+    ensures { length result.now ≤ length buf.old }
 {
     let path = path_of(i, part);
     desk::read_file(rt, &path[..4 + part.len()], buf)

@@ -1,6 +1,5 @@
 -- The facts of a document's records, one record after the other. Assumes nothing.
-use Rattle.std.specs.Prelude.{ℕ, ◌+◌, true, false, cond, ◌&&◌, ◌||◌, Option, Some, None}
-use Rattle.std.specs.Option.{option_or}
+use Rattle.std.specs.Prelude.{ℕ, ◌+◌, true, false, cond, ◌&&◌, ◌||◌, eqb, Option, Some, None}
 use Rattle.paper.specs.declared.Facts.{Facts}
 use Rattle.paper.specs.declared.Kind.TheVariants.{Payment, Auth, Summary}
 use Rattle.paper.specs.Bytes.{Bytes, bytes, bit}
@@ -8,7 +7,7 @@ use Rattle.paper.specs.Conditions.{of_kind, for_type, pin_type}
 
 -- the PIN type after one record more: the first one stays
 unfoldable pub pin_after : Facts → Bytes → Option ℕ
-pin_after f r = option_or f.pin (cond (of_kind Auth r) (Some (pin_type r)) None)
+pin_after f r = cond (eqb f.aths 0 && of_kind Auth r) (Some (pin_type r)) f.pin
 
 -- the facts of one record more
 -- tied to the paper by `facts_are` of walk/Facts

@@ -1,4 +1,6 @@
+use mathlib.Core.Path.{ap, ◌∙◌}
 use Rattle.std.proofs.Common.{arith}
+use Rattle.paper.specs.Bytes.{laid}
 use Rattle.paper.specs.Pack.{lent}
 use Rattle.judge.specs.Judged.{searched}
 use Rattle.ack.proofs.Whole.{sets_small, file_size, file_laid}
@@ -22,4 +24,4 @@ returns-clause-value c =
 pub returns-clause-out_after : goal.returns-clause-out_after
 returns-clause-out_after c =
     file_laid (searched (lent c.args.self.reference)) c.args.self.date.now c.args.name.now c.args.self.t.now c.args.self.n c.args.self.begins c.args.out.now c.lay.new.out c.write_sets-done.new.out c.put_recap.new.out c.through-twelve.result.now
-    c.write_sets-done.result c.requires c.lay.ensures c.write_sets-done.ensures c.through-twelve.ensures c.put_recap.ensures
+    c.write_sets-done.result c.requires (c.lay.ensures ∙ ap (laid c.args.out.now 0) c.copy_from_slice.ensures.after) c.write_sets-done.ensures c.through-twelve.ensures c.put_recap.ensures
