@@ -34,7 +34,7 @@ abbrev pub kept_number : Option ℕ → ℕ
 kept_number None = 0
 kept_number (Some number) = number % 4294967296
 
--- what a form of these numbers leaves, with its letter: its primary number where it got A and there is room
+-- what a form of these numbers leaves, with its letter: one number more in the row where it got A and there is room
 unfoldable pub next_past : Identity → Letter → Past → List ℕ → Past
 next_past i l p row = record {
   dsn = number_after i.dsn p.dsn;
@@ -42,6 +42,7 @@ next_past i l p row = record {
   n = cond (is_a l && ltb p.n (length row)) (p.n + 1) p.n;
 }
 
+-- and there its primary number
 unfoldable pub next_row : Identity → Letter → Past → List ℕ → List ℕ
 next_row i l p row = cond (is_a l && ltb p.n (length row)) (set row p.n (kept_number i.ssn)) row
 

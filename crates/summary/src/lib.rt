@@ -83,8 +83,8 @@ macro_rules! and_run {
     };
 }
 
-// Where the run is blank, none of the rules is broken: the set moves by as many places, and what would pass the 64th is lost. The
-// fields and the record are there for the contract.
+// Where the run is blank, none of the rules is broken: the set moves by as many places as the list has, and what would pass the 64th is lost.
+// The ends of the run and the record are there for the contract.
 #[inline(always)]
 fn past_run(fields: &[u32], from: u32, to: u32, own: &[u8], later: u64) -> u64
     requires is_few { length fields.now < 64 }
